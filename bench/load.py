@@ -223,7 +223,7 @@ def main():
     if chosen.flood:
         return flood(chosen.program, chosen.count or 400000)
     count = chosen.count or 100000
-    subprocess.run(["make", "-s", "-C", check.TOP / "examples/c", "udp", f"STATE={check.STATE}",
+    subprocess.run(["make", "-s", "-C", check.TOP / "examples/c", "udp",
                     f"ENDPOINT={check.harness.ENDPOINT}", f"LIBRARY={check.STATELESS}",
                     f"SYSTEM={check.harness.BESIDE}"], check=True)
     with tempfile.TemporaryDirectory() as room:

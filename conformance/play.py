@@ -4,7 +4,7 @@ subject.
 
 SUBJECT is a file of Python (`subjects/model.py`), the command of a program in one word, or the name
 of a subject that is shipped here: `endpoint` (this library's endpoints through C), `endpoint-rust`
-(in Rust), `stunp` (its messages and parts), `model`, `second`, `aioice`, `pion`, `libnice`,
+(in Rust), `stunp` (its messages), `model`, `second`, `aioice`, `pion`, `libnice`,
 `coturn`, `libre`, `turnserver`, `p1_stun`. Without a subject the three of this library are played.
 FILE is a file of `levels/`, or one in the grammar of transcripts.
 

@@ -16,7 +16,7 @@ import textwrap
 from pathlib import Path
 
 HERE = Path(__file__).resolve().parent
-HEADERS = ("stunp.h", "stunp_state.h", "stunp_endpoint.h", "stunp_sockaddr.h", "stunp_log.h")
+HEADERS = ("stunp.h", "stunp_endpoint.h", "stunp_sockaddr.h", "stunp_log.h")
 PIECE = re.compile(r"^/\*(.*?)\*/\n|^((?:extern )?\w[^;{}]*?\b(\w+)\([^)]*\))(?:;| \{)"
                    r"|^typedef (?:struct|enum)\b[^\n]*?(?:\n(?!\})[^\n]*)*?\n?\} (\w+);", re.M | re.S)
 # The macros that a comment is about: the lines after the comment define them for C++ and for C.

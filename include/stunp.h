@@ -1,9 +1,9 @@
 /* stunp.h: STUN messages (RFC 8489), for C, C++ and Rust
  *
  * The calls of this header read, check, write and sign single messages, derive the keys of users,
- * and find the messages in a stream. They store nothing between two calls. stunp_state.h adds what
- * must be stored: retransmissions, challenges and nonces. stunp_endpoint.h has whole clients,
- * servers and ICE agents.
+ * and find the messages in a stream. They store nothing between two calls. stunp_endpoint.h has
+ * whole clients, servers and ICE agents, which store what must be stored: retransmissions and
+ * challenges.
  *
  * To begin, see the examples below: `answer` is a server that needs no credentials, and
  * `write_check` and `is_check` are for an ICE agent. A section number without an RFC means RFC
@@ -17,11 +17,11 @@
  * installs the proved library if it was built, and otherwise the exported one:
  *
  * - The proved library is the archive crates/stun_c/out/libstun_c.a, which `rt lib` in
- *   crates/stun_c proves and builds. It holds ELF objects for Linux on x86-64-v2 processors, as do
- *   the proved archives for stunp_state.h and stunp_endpoint.h.
+ *   crates/stun_c proves and builds. It holds ELF objects for Linux on x86-64-v2 processors, as
+ *   does the proved archive for stunp_endpoint.h.
  * - The exported library is libstunp.so and libstunp.a in target/c. `make lib` builds both from the
  *   same sources with cargo and a C compiler, and can build them for other processors too. It has
- *   the calls of all three headers, and is tested, not proved. It also contains the calls that are
+ *   the calls of both headers, and is tested, not proved. It also contains the calls that are
  *   written in C, such as stunp_strerror, so no code of these headers is compiled into your program
  *   (STUNP_INLINE_CALLS). It needs malloc, abort and the functions of <string.h>. If you link the
  *   archive with -Wl,--gc-sections, your program contains only what it calls.
@@ -47,9 +47,8 @@
  *   that it does not know are not written. The library refuses a size that is larger than its own,
  *   because it would ignore the fields that it does not know. So a program that was compiled with a
  *   larger struct does not run with an earlier library.
- * - All other structs keep their size. This includes stunp_timeouts and stunp_statistics, which
- *   begin with their size: the library accepts only its own size. If a later release needs more
- *   fields, it adds a new struct, and calls that take the new struct.
+ * - All other structs keep their size. If a later release needs more fields, it adds a new struct,
+ *   and calls that take the new struct.
  * - stunp_writer has a reserved field for later releases.
  * - stunp_header, stunp_cursor and stunp_address are final, and have everything that the calls
  *   need: the header of a message has no other fields, and only stunp_walk reads a cursor.
@@ -354,7 +353,7 @@ typedef enum stunp_algorithm {
     STUNP_SHA256 = 2 /* HMAC-SHA256, in MESSAGE-INTEGRITY-SHA256 (section 14.6) */
 } stunp_algorithm;
 
-/* How a client or a server of stunp_state.h or stunp_endpoint.h treats user names that are sent as
+/* How a client or a server of stunp_endpoint.h treats user names that are sent as
  * a hash (USERHASH, section 9.2). */
 typedef enum stunp_feature {
     STUNP_AUTO = 0,     /* client: sends the hash if the server accepts hashes, and otherwise the
@@ -402,9 +401,9 @@ typedef enum stunp_refusal {
     STUNP_MISSING_ATTRIBUTE = -15,   /* no attribute of this type is visible */
     STUNP_MALFORMED_ATTRIBUTE = -16, /* the value of the attribute is malformed */
 
-    /* The calls of stunp_state.h return the following errors too. Of these, the calls of
-     * stunp_endpoint.h return only STUNP_OUT_OF_MEMORY, STUNP_EMPTY_HANDLE, STUNP_FULL_HANDLE,
-     * STUNP_ALREADY_IN_PROGRESS, STUNP_CANNOT_SIGN and STUNP_WRONG_HANDLE. */
+    /* Of the following errors, the calls of stunp_endpoint.h return STUNP_OUT_OF_MEMORY,
+     * STUNP_EMPTY_HANDLE, STUNP_FULL_HANDLE, STUNP_ALREADY_IN_PROGRESS, STUNP_CANNOT_SIGN and
+     * STUNP_WRONG_HANDLE. No call returns the others, whose numbers stay taken. */
     STUNP_OUT_OF_MEMORY = -17,       /* an allocation failed */
     STUNP_EMPTY_HANDLE = -18,        /* the handle is empty */
     STUNP_FULL_HANDLE = -19,         /* the handle is not empty */
@@ -413,8 +412,7 @@ typedef enum stunp_refusal {
     STUNP_UNAUTHORIZED = -22,        /* server: the message is not sufficiently authenticated;
                                       * answer 401. Client: it cannot answer the server's 401; give
                                       * up */
-    STUNP_BAD_REQUEST = -23,         /* server: the request is not well-formed; answer 400, or 438
-                                      * in one case (see `judge` in stunp_state.h) */
+    STUNP_BAD_REQUEST = -23,         /* server: the request is not well-formed; answer 400 */
     STUNP_STALE_NONCE = -24,         /* server: the nonce is not the current one; answer 438 */
     STUNP_UNSUPPORTED_FEATURE = -25, /* client: the server lacks an algorithm or a feature that is
                                       * required; give up */
@@ -424,8 +422,7 @@ typedef enum stunp_refusal {
     STUNP_CANNOT_SIGN = -28,         /* server: there is no key to sign with, because the user was
                                       * removed or has no key for the client's algorithm. ICE: the
                                       * credentials of the peer are not known yet */
-    STUNP_WRONG_HANDLE = -29         /* the handle has a value of another kind, or a stunp_user that
-                                      * was made for another realm or for other algorithms */
+    STUNP_WRONG_HANDLE = -29         /* the handle has a value of another kind */
 } stunp_refusal;
 
 /* Lengths in bytes. */
@@ -477,16 +474,14 @@ typedef struct {
  * address, in network order, and `length` is 4 or 16. `port` is in the processor's order.
  *
  * If the address is an IPv4 address, the last 12 octets are ignored in an argument, and are 0 in a
- * result. The calls of stunp_state.h treat an IPv4 address and the same address mapped into IPv6 as
- * two addresses, and the calls of stunp_endpoint.h treat them as one. The scope of an IPv6 address
+ * result. The calls of stunp_endpoint.h treat an IPv4 address and the same address mapped into IPv6
+ * as one address. The scope of an IPv6 address
  * is not stored: a link-local address counts as the same address on every interface, and you have
  * to add the scope again before you send. If the same link-local address is in use on two
  * interfaces, you need an agent or a server for each interface.
  *
- * A call of stunp_state.h or stunp_endpoint.h that takes an address fails with STUNP_BAD_ARGUMENT
- * if `length` is neither 4 nor 16, unless its description gives a meaning to length 0. The calls of
- * stunp_state.h test this right after the handles; only stunp_server_sign_of and
- * stunp_server_sign_of_keys first test the name and the password or the keys. */
+ * A call of stunp_endpoint.h that takes an address fails with STUNP_BAD_ARGUMENT if `length` is
+ * neither 4 nor 16, unless its description gives a meaning to length 0. */
 typedef struct {
     uint8_t octets[16];
     uint16_t port;
@@ -1327,7 +1322,7 @@ typedef void (*stunp_release)(void *at);
  * before it frees or resizes them.
  *
  * The proved archives do not have this call: they allocate with three functions of your program
- * (stunp_state.h). If the program has these functions, the exported library uses them too, unless
+ * (stunp_endpoint.h). If the program has these functions, the exported library uses them too, unless
  * the program has called stunp_set_memory.
  *
  * Returns 0. Errors:

@@ -1,19 +1,18 @@
-// stunp.hpp: stunp.h, stunp_state.h and stunp_endpoint.h for C++17, with handles that free
-// themselves, messages that store their own length, views as arguments, and results that own what
-// they return. The endpoints are in the namespaces stunp::endpoint and stunp::ice.
+// stunp.hpp: stunp.h and stunp_endpoint.h for C++17, with handles that free themselves, messages
+// that store their own length, views as arguments, and results that own what they return. The
+// endpoints are in the namespaces stunp::endpoint and stunp::ice.
 //
 // The code of this header is compiled into your program. It only passes messages on: the library
 // judges them. Nothing throws, except std::bad_alloc if a vector or a string of this header cannot
 // allocate. To make a call that this header does not wrap, use `ask`:
 //
-//     stunp::ask(stunp_agent_handle, agent.get(), bytes, &from, now)
+//     stunp::ask(stunp_endpoint_users_remove, users.get(), name)
 //
 // Pass a text, a vector or an array of bytes as one argument, in place of a pointer and a length.
 #ifndef STUNP_HPP
 #define STUNP_HPP
 
 #include "stunp_endpoint.h"
-#include "stunp_state.h"
 #include <array>
 #include <cassert>
 #include <optional>
@@ -106,15 +105,14 @@ template <class T = int64_t> class [[nodiscard]] result {
     const char *text() const { return stunp_strerror(answer_); }
 };
 
-// The verdict of an authenticator or of a signature check: true if the message is authentic.
+// The verdict of a signature check: true if the message is authentic.
 class [[nodiscard]] verdict {
     int64_t answer_;
 
   public:
     explicit verdict(int64_t answer) : answer_(answer) {}
-    explicit operator bool() const { return stunp_is_authentic(answer_); }
+    explicit operator bool() const { return answer_ > 0; }
     stunp_algorithm algorithm() const { return stunp_algorithm(answer_); } // if the verdict is true
-    bool is_resend() const { return stunp_is_resend(answer_); } // sign a new request and send it
     int64_t number() const { return answer_; }
     const char *text() const { return stunp_strerror(answer_); }
 };
@@ -152,13 +150,8 @@ inline result<bytes> userhash(view name, view realm) {
 struct user { view name, password; };
 struct stored_user { view name, sha1, sha256; };
 
-// How a message names its user: `text` is the name, or the hash of the name.
-struct naming { stunp_naming by; std::string text; };
-
-// ---- Handles. They can be moved, but not copied. Every call on an empty handle fails. Do not
-// declare a handle of stunp_state.h const, nor the `result` that contains it: even a call that
-// leaves the handle unchanged writes to it during the call. A server and users of stunp::endpoint
-// may be const.
+// ---- Handles. They can be moved, but not copied. Every call on an empty handle fails. A server
+// and users of stunp::endpoint may be const.
 
 template <class H, void (*Clear)(H *)> class handle {
     H handle_{};
@@ -170,102 +163,6 @@ template <class H, void (*Clear)(H *)> class handle {
     ~handle() { Clear(&handle_); }
     H *get() { return &handle_; }
     const H *get() const { return &handle_; }
-};
-
-// A user from a database, prepared once for the realm and the algorithms of a server, and used by
-// one thread at a time. It contains the keys of its password, so make it again when the password
-// changes.
-struct prepared_user : handle<stunp_user, stunp_user_clear> {
-    static result<prepared_user> make(const stunp_server *of, const user &by) {
-        prepared_user made;
-        int64_t answer = call(stunp_user_new, made.get(), of, by.name, by.password);
-        return result<prepared_user>(answer, std::move(made));
-    }
-    static result<prepared_user> make(const stunp_server *of, const stored_user &by) {
-        prepared_user made;
-        int64_t answer =
-            call(stunp_user_new_of_keys, made.get(), of, by.name, by.sha1, by.sha256);
-        return result<prepared_user>(answer, std::move(made));
-    }
-};
-
-struct server : handle<stunp_server, stunp_server_clear> {
-    using words = std::array<uint32_t, 16>; // random numbers, new ones for each call
-
-    static result<server> make(view realm, uint32_t supported = STUNP_SHA1) {
-        server made;
-        int64_t answer = call(stunp_server_new, made.get(), realm);
-        if (answer == 0) answer = stunp_server_set_algorithms(made.get(), supported);
-        return result<server>(answer, std::move(made));
-    }
-    result<> add_user(view name, view key) { return ask(stunp_server_add_user, get(), name, key); }
-    verdict validate(view message, const address &from, uint64_t now, const words &random) {
-        return verdict(
-            call(stunp_server_validate, get(), message, &from, now, random.data()));
-    }
-    verdict validate(view message, const address &from, uint64_t now, const words &random,
-                     const user &by) {
-        return verdict(call(stunp_server_validate_of, get(), message, &from, now, random.data(),
-                            by.name, by.password));
-    }
-    verdict validate(view message, const address &from, uint64_t now, const words &random,
-                     const stored_user &by) {
-        return verdict(call(stunp_server_validate_of_keys, get(), message, &from, now,
-                            random.data(), by.name, by.sha1, by.sha256));
-    }
-    result<prepared_user> prepare(const user &by) const { return prepared_user::make(get(), by); }
-    result<prepared_user> prepare(const stored_user &by) const {
-        return prepared_user::make(get(), by);
-    }
-    verdict validate(view message, const address &from, uint64_t now, const words &random,
-                     const prepared_user &by) {
-        return verdict(call(stunp_server_validate_user, get(), message, &from, now, random.data(),
-                            by.get()));
-    }
-    // Returns the user whom a message names, so that you can look the user up
-    // (stunp_server_named_user).
-    result<naming> named_user(view message, const address &from, size_t room = 513) const {
-        bytes name(room);
-        size_t length = 0;
-        int64_t by =
-            call(stunp_server_named_user, get(), message, &from, name.data(), room, &length);
-        if (by == STUNP_BUFFER_TOO_SMALL) return named_user(message, from, length);
-        std::string text(view(name.data(), by > 0 ? length : 0).text());
-        return result<naming>(by, {stunp_naming(by < 0 ? 0 : by), std::move(text)});
-    }
-    // Returns the user who was validated last at an address, or an empty name.
-    result<std::string> client(const address &at, size_t room = 513) const {
-        bytes name(room);
-        size_t length = 0;
-        int64_t by = stunp_server_client(get(), &at, name.data(), room, &length);
-        if (by == STUNP_BUFFER_TOO_SMALL) return client(at, length);
-        return result<std::string>(by, std::string(view(name.data(), length).text()));
-    }
-    result<> remove_client(const address &at) {
-        return ask(stunp_server_remove_client, get(), &at);
-    }
-    result<> forget_expired(uint64_t now, uint64_t age) {
-        return ask(stunp_server_forget_expired, get(), now, age);
-    }
-};
-
-struct client : handle<stunp_client, stunp_client_clear> {
-    static result<client> make(view name, view password, uint32_t supported = STUNP_SHA1) {
-        client made;
-        int64_t answer = stunp_client_new(made.get());
-        if (answer == 0) answer = stunp_client_set_algorithms(made.get(), supported);
-        if (answer == 0) answer = call(stunp_client_set_credentials, made.get(), name, password);
-        return result<client>(answer, std::move(made));
-    }
-    verdict validate(view message) { return verdict(call(stunp_client_validate, get(), message)); }
-};
-
-struct agent : handle<stunp_agent, stunp_agent_clear> {
-    static result<agent> make(const address &local, stunp_transport transport = STUNP_UDP) {
-        agent made;
-        int64_t answer = stunp_agent_new(made.get(), transport, &local);
-        return result<agent>(answer, std::move(made));
-    }
 };
 
 // ---- A message to write. After an error the other calls do nothing, so it is enough to test the
@@ -304,19 +201,6 @@ class writer {
         return *this;
     }
     writer &sign(algorithm by, view key) & { return then(stunp_write_integrity, by, key); }
-    writer &sign(const client &by) & { return then(stunp_write_client_sign, by.get()); }
-    writer &sign(server &by, const address &to) & {
-        return then(stunp_write_server_sign, by.get(), &to);
-    }
-    writer &sign(server &by, const address &to, const user &of) & {
-        return then(stunp_write_server_sign_of, by.get(), &to, of.name, of.password);
-    }
-    writer &sign(server &by, const address &to, const stored_user &of) & {
-        return then(stunp_write_server_sign_of_keys, by.get(), &to, of.name, of.sha1, of.sha256);
-    }
-    writer &sign(server &by, const address &to, const prepared_user &of) & {
-        return then(stunp_write_server_sign_user, by.get(), &to, of.get());
-    }
     // Ends the answer to an accepted request (stunp_reply_finish), which may also add FINGERPRINT.
     writer &sign(const stunp_reply &by) & {
         if (stunp_reply_finish(&by, &out_) < 0) return *this; // `finish` has the error
@@ -434,7 +318,7 @@ inline result<channel_data> read_channel_data(view item) {
     return result<channel_data>(at, {channel, {item.data() + (at < 0 ? 0 : at), length}});
 }
 
-// ---- Servers that store nothing about their clients, and clients (stunp_endpoint.h)
+// ---- Servers and clients (stunp_endpoint.h)
 
 namespace endpoint {
 

@@ -2,8 +2,8 @@
  *
  * stunp.h reads and writes single messages. This header has whole endpoints. For a server, and for
  * the connectivity checks of ICE (RFC 8445), one call judges a datagram and writes the answer. A
- * client reports what to send and when, and how each request ended. The endpoints do not need
- * stunp_state.h, and most programs need only this header.
+ * client reports what to send and when, and how each request ended. Most programs need only this
+ * header.
  *
  *   stunp_endpoint_server  the settings of a server: with long-term, short-term or no credentials
  *   stunp_endpoint_users   the users of a server, each with a password or with stored keys
@@ -313,14 +313,16 @@
  * Linking
  *
  * - Proved (needs `rt`): libstunp_endpoint.a, libstunp.a for the messages themselves (stunp.h), and
- *   libstunp_heap.a (heap.c) or an allocator of your own (rattle_alloc, stunp_state.h). `rt lib` in
+ *   libstunp_heap.a (heap.c) or an allocator of your own (rattle_alloc below). `rt lib` in
  *   crates/stun_c_endpoint proves and builds out/libstun_c_endpoint.a, which `make install`
- *   installs as libstunp_endpoint.a. It does not need libstunp_state.a.
- * - Exported (`make lib`): libstunp.so or libstunp.a, each of which has the calls of all three
- *   headers (stunp.h, stunp_state.h and this one).
+ *   installs as libstunp_endpoint.a. In addition to these three libraries, a program needs only
+ *   what every C compiler has: memcpy, memmove, memset, and __udivti3 and __umodti3 of its
+ *   runtime.
+ * - Exported (`make lib`): libstunp.so or libstunp.a, each of which has the calls of both
+ *   headers, stunp.h and this one.
  *
  * The pkg-config file stunp_endpoint and the CMake target stunp::stunp_endpoint name the libraries
- * that are installed. If your program also uses stunp_state.h, add stunp_state.
+ * that are installed.
  *
  *
  * Memory and errors
@@ -340,15 +342,14 @@
  *
  * The library does not overwrite passwords and keys before it frees them. If an attacker may read
  * memory that was freed, use an allocator that overwrites each block (stunp_set_memory of stunp.h,
- * or rattle_alloc of stunp_state.h), as libstunp_heap.a does.
+ * or rattle_alloc below), as libstunp_heap.a does.
  *
  *
  * Handles
  *
  * Initialize each handle with {0}, which makes it empty: a _new call fills it, and a _free call
- * empties it. A call with a handle that was never initialized, or with a handle of stunp_state.h
- * that was cast, has undefined behavior, because the handles of stunp_state.h work differently. If
- * a handle of this header has a value of another kind, a _new call fails with STUNP_FULL_HANDLE, a
+ * empties it. A call with a handle that was never initialized has undefined behavior. If a handle
+ * of this header has a value of another kind, a _new call fails with STUNP_FULL_HANDLE, a
  * _free call frees the value, and any other call fails with STUNP_WRONG_HANDLE. If a call takes a
  * server or a table of users as const, a null pointer counts as an empty handle. All other pointers
  * to handles must not be null, except in a _free call. The _own calls take a copy of a handle (see
@@ -393,6 +394,57 @@
 #ifdef __cplusplus
 extern "C" {
 #endif
+
+/* ---- The allocator
+ *
+ * The archive allocates with the three functions below, which your program defines once.
+ * libstunp_heap.a (heap.c) defines them by malloc, with a limit that you can set. The proofs assume
+ * that the functions behave as described here.
+ *
+ * A program without these functions does not link with the proved archive. The exported libstunp.a
+ * and libstunp.so then use malloc, or the functions that the program passes to stunp_set_memory
+ * (stunp.h), which is the simpler way to replace malloc. If the program has only one or two of the
+ * three, each call that allocates fails with STUNP_OUT_OF_MEMORY.
+ *
+ * The exported libraries find the three functions in any object file of the program, in whatever
+ * order it is linked. But they refer to the functions weakly, and a linker takes no object file
+ * from a static library for a weak reference. So if your three functions are in a static library,
+ * link with -Wl,-u,rattle_alloc, as the pkg-config file of stunp_heap does. If they are in a shared
+ * library of your own, put -Wl,--no-as-needed before this library. libstunp.so finds only functions
+ * that the program exports: if you compile with -fvisibility=hidden, give the three functions the
+ * attribute `visibility("default")`. Otherwise the library calls malloc in their place.
+ *
+ * If an allocation fails, the call fails with STUNP_OUT_OF_MEMORY. The functions must return, so
+ * they must not leave through longjmp or an exception, and they must not make a call on a handle.
+ * Every thread that uses a handle calls them, possibly at the same time as other threads.
+ *
+ * Blocks contain passwords and keys, and the archive does not overwrite them before it frees or
+ * moves them. An allocator that stores the length of each block can overwrite them, as heap.c does.
+ *
+ * The toolchain that builds the archive fixes the three names, so two archives of this toolchain in
+ * one program share these functions. To give an archive functions of its own, rename them in a copy
+ * of the archive, and in your definitions:
+ *
+ *   objcopy --redefine-sym rattle_alloc=mine_alloc --redefine-sym rattle_realloc=mine_realloc \
+ *    --redefine-sym rattle_dealloc=mine_dealloc libstunp_endpoint.a mine.a */
+
+/* The result of an allocation. If `is_ok` is false the allocation failed, and `at` is not read. */
+typedef struct { bool is_ok; void *at; } rattle_allocation;
+
+/* Allocates `length` bytes at an address that is a multiple of `alignment`, which is a power of two
+ * up to 16. `length` is neither 0 nor above PTRDIFF_MAX. */
+rattle_allocation rattle_alloc(size_t length, size_t alignment);
+
+/* Resizes the block `at`, which came from rattle_alloc or rattle_realloc with this alignment, to
+ * `length` bytes, which may be more or fewer than before. The block may move.
+ *
+ * The first `kept` bytes of the new block must equal the first `kept` bytes of the old block;
+ * `kept` is at most `length`. On success the old block is freed. On failure it must stay as it is.
+ * `at` is not null, and `length` is neither 0 nor above PTRDIFF_MAX. */
+rattle_allocation rattle_realloc(void *at, size_t kept, size_t length, size_t alignment);
+
+/* Frees the block `at`, which is not null. */
+void rattle_dealloc(void *at);
 
 /* ---- Types */
 
@@ -1484,8 +1536,8 @@ int64_t stunp_ice_checker_check_with(stunp_ice_checker *checker, const uint8_t i
 
 /* Writes a check to the front of `out`, and writes to `*check` the data that is needed to judge the
  * answer. Send the check to the address `to`, and retransmit it until its answer arrives (section
- * 7.2.4). To know when to retransmit it, use stunp_agent of stunp_state.h or a timer of your own;
- * or call stunp_ice_checks_start instead, which includes the timer. A buffer of STUNP_ICE_CHECK_MAX
+ * 7.2.4). To know when to retransmit it, use a timer of your own, or call
+ * stunp_ice_checks_start instead, which includes the timer. A buffer of STUNP_ICE_CHECK_MAX
  * bytes is enough.
  *
  * `id` must be random and new, because the answer to a check could end another check with the same

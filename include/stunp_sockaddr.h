@@ -25,9 +25,8 @@ extern "C" {
 /* Converts a socket address of `length` bytes. An IPv4 address that is mapped into IPv6
  * (::ffff:a.b.c.d), as a socket for both families returns it, becomes an IPv4 address. The flow
  * label and the scope are left out. If the socket address is neither IPv4 nor IPv6, or is too
- * short, the result has length 0. Test for this: most calls fail with STUNP_BAD_ARGUMENT for such
- * an address, but stunp_agent_new_with with a `remote` of length 0 makes an agent that may send to
- * any address. */
+ * short, the result has length 0. Test for this: calls of stunp_endpoint.h fail with
+ * STUNP_BAD_ARGUMENT for such an address, unless length 0 has a meaning of its own there. */
 static inline stunp_address stunp_address_of(const struct sockaddr *name, socklen_t length) {
     stunp_address address = {{0}, 0, 0};
     struct sockaddr_in four;

@@ -1,10 +1,9 @@
 #!/bin/sh
 # Builds the archives, and tests them: by the transcripts (play.py), and by programs in C that pass
-# what only C can pass. STUN_C, STUN_STATE and STUN_ENDPOINT may name other archives, such as the
-# libstunp.a of tools/rust_c.sh for all three; then nothing is proved. Without STUN_ENDPOINT, that
-# is STUN_STATE. LIBRARIES has what these archives need in addition. The programs are built with
-# sanitizers if the compiler has them. Without a C compiler nothing is tested. The last line says
-# what was tested.
+# what only C can pass. STUN_C and STUN_ENDPOINT may name other archives, such as the libstunp.a of
+# tools/rust_c.sh for both; then nothing is proved. LIBRARIES has what these archives need in
+# addition. The programs are built with sanitizers if the compiler has them. Without a C compiler
+# nothing is tested. The last line says what was tested.
 set -eu
 cd "$(dirname "$0")"
 cc=${CC:-cc} plus=${CXX:-c++}
@@ -31,18 +30,15 @@ passes() {
 }
 
 proved=''
-if [ -z "${STUN_C-}" ] || [ -z "${STUN_STATE-}" ]; then
+if [ -z "${STUN_C-}" ] || [ -z "${STUN_ENDPOINT-}" ]; then
     quiet ../tools/archives.sh
     STUN_C=$PWD/../crates/stun_c/out/libstun_c.a
-    STUN_STATE=$PWD/../crates/stun_state/out/libstun_state.a
     STUN_ENDPOINT=$PWD/../crates/stun_c_endpoint/out/libstun_c_endpoint.a
     proved=yes LIBRARIES=''
 fi
 : "${LIBRARIES=-lpthread -ldl -lm}"
-STUN_ENDPOINT=${STUN_ENDPOINT:-$STUN_STATE}
-export STUN_C STUN_STATE STUN_ENDPOINT LIBRARIES
-messages="$STUN_C $LIBRARIES" archives="$STUN_STATE $STUN_ENDPOINT $STUN_C $LIBRARIES"
-endpoint="$STUN_ENDPOINT $STUN_C $LIBRARIES"
+export STUN_C STUN_ENDPOINT LIBRARIES
+messages="$STUN_C $LIBRARIES" archives="$STUN_ENDPOINT $STUN_C $LIBRARIES"
 heap='../examples/c/heap.c'
 
 # The headers declare what the archives export, and so does the example for Rust.
@@ -54,7 +50,7 @@ bodies=$(inlined "$STUN_C")
 strict="$strict $bodies"
 has_plus=''
 if there "${CXX-}" c++; then has_plus=yes; fi
-for header in stunp stunp_state stunp_endpoint stunp_log; do
+for header in stunp stunp_endpoint stunp_log; do
     alone="$strict -fsyntax-only -include ../include/$header.h"
     $cc -std=c99 $alone -x c /dev/null
     [ -z "$has_plus" ] || $plus -std=c++17 $alone -x c++ /dev/null
@@ -82,18 +78,16 @@ python3 play.py "$scratch/play" transcripts/*.txt $endpoints/look-ups.*.txt \
     $endpoints/ice.*.txt $endpoints/client.*.txt >"$scratch/played" ||
     { cat "$scratch/played" >&2 && exit 1; }
 
-# What only C can pass, what strangers may send, many addresses, and the worked examples of both
-# headers, without the comment round them. No call of the archive without state wants memory: it is
-# linked with none.
+# What only C can pass, what strangers may send, and the worked examples of both headers, without
+# the comment round them. No call of the archive of stunp.h wants memory: it is linked with none.
 sed -n 's/^ \*     //p; /\*\/$/q' ../include/stunp.h >"$scratch/answer.h"
-sed -n 's/^ \*     //p; /\*\/$/q' ../include/stunp_state.h >"$scratch/ask.h"
 sed -n 's/^ \*     //p; /\*\/$/q' ../include/stunp_endpoint.h >"$scratch/serve.h"
 for name in arguments attributes extra log sockaddr; do
     $cc $c99 c/$name.c $messages -o "$scratch/$name"
     passes $name "$scratch/$name"
 done
 passes refused ./refused.sh
-for name in agents client endpoint handles hostile ice ice_checks many texts users worked; do
+for name in client endpoint hostile ice ice_checks texts worked; do
     $cc $c99 -Wno-conversion -I"$scratch" c/$name.c $heap $archives -o "$scratch/$name"
     passes $name "$scratch/$name"
 done
@@ -159,7 +153,6 @@ asks_for() {
 bytes='memcpy|memmove|memset'
 if [ -n "$proved" ]; then
     asks_for "$bytes" stun_c
-    asks_for "$bytes|__udivti3|__umodti3|rattle_alloc|rattle_realloc|rattle_dealloc" stun_state
     asks_for "$bytes|__udivti3|__umodti3|rattle_alloc|rattle_realloc|rattle_dealloc" \
         stun_c_endpoint
 fi

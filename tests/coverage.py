@@ -20,9 +20,9 @@ from pathlib import Path
 
 TESTS = Path(__file__).resolve().parent
 TOP = TESTS.parent
-PROGRAMS = ("agents", "arguments", "attributes", "client", "endpoint", "extra", "handles", "hostile",
-            "ice", "ice_checks", "log", "many", "sockaddr", "texts", "users", "worked")
-WORKED = {"answer": "stunp", "ask": "stunp_state", "serve": "stunp_endpoint"}
+PROGRAMS = ("arguments", "attributes", "client", "endpoint", "extra", "hostile", "ice",
+            "ice_checks", "log", "sockaddr", "texts", "worked")
+WORKED = {"answer": "stunp", "serve": "stunp_endpoint"}
 
 
 def example_of(header):

@@ -1,9 +1,8 @@
 #!/bin/sh
 # Builds the archives and the examples over them, and compares what the examples print. It installs
 # the archives into a scratch folder and builds over that, too (tests/install.sh). What the archives
-# return is tested by tests/check.sh. STUN_C, STUN_STATE and STUN_ENDPOINT may name other archives,
-# such as the libstunp.a of tools/rust_c.sh for all three; then nothing is proved. Without
-# STUN_ENDPOINT, that is STUN_STATE. LIBRARIES has what these archives need in addition. Without a C
+# return is tested by tests/check.sh. STUN_C and STUN_ENDPOINT may name other archives, such as
+# the libstunp.a of tools/rust_c.sh for both; then nothing is proved. LIBRARIES has what these archives need in addition. Without a C
 # compiler and make nothing is tested. The last line says what was tested.
 set -eu
 cd "$(dirname "$0")"
@@ -15,19 +14,17 @@ if ! there "${CC-}" cc || ! command -v make >/dev/null; then
 fi
 scratch=$(mktemp -d)
 trap 'rm -rf "$scratch"' EXIT
-if [ -z "${STUN_C-}" ] || [ -z "${STUN_STATE-}" ]; then
+if [ -z "${STUN_C-}" ] || [ -z "${STUN_ENDPOINT-}" ]; then
     if ! ../tools/archives.sh >"$scratch/lib" 2>&1; then
         cat "$scratch/lib" >&2
         exit 1
     fi
     STUN_C=$PWD/../crates/stun_c/out/libstun_c.a
-    STUN_STATE=$PWD/../crates/stun_state/out/libstun_state.a
     STUN_ENDPOINT=$PWD/../crates/stun_c_endpoint/out/libstun_c_endpoint.a
     LIBRARIES=''
 fi
 : "${LIBRARIES=-lpthread -ldl -lm}"
-STUN_ENDPOINT=${STUN_ENDPOINT:-$STUN_STATE}
-export STUN_C STUN_STATE STUN_ENDPOINT LIBRARIES
+export STUN_C STUN_ENDPOINT LIBRARIES
 
 # expect STATUS WANTED COMMAND..: the command ends with this status, and prints this.
 expect() {
@@ -41,7 +38,7 @@ expect() {
 }
 
 rm -rf ../examples/c/out
-make -s -C ../examples/c CC="${CC:-cc}" LIBRARY="$STUN_C" STATE="$STUN_STATE" \
+make -s -C ../examples/c CC="${CC:-cc}" LIBRARY="$STUN_C" \
     ENDPOINT="$STUN_ENDPOINT" SYSTEM="$LIBRARIES"
 
 password='VOkJxbRl1RmTxUk/WvJxBt'
@@ -72,7 +69,7 @@ if there "${CXX-}" c++; then
     ${CC:-cc} -O1 -I../include -c ../examples/c/heap.c -o "$scratch/heap.o"
     ${CXX:-c++} -std=c++17 -Wall -Wextra -Wpedantic -Werror $sanitized -I../include \
         $(inlined "$STUN_C") \
-        cpp/check.cpp "$scratch/heap.o" "$STUN_STATE" "$STUN_ENDPOINT" "$STUN_C" $LIBRARIES -o "$scratch/wrapped"
+        cpp/check.cpp "$scratch/heap.o" "$STUN_ENDPOINT" "$STUN_C" $LIBRARIES -o "$scratch/wrapped"
     "$scratch/wrapped" >"$scratch/said"
     cmp "$scratch/said" cpp/check.txt
     checked='C, C++'

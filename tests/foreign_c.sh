@@ -4,8 +4,8 @@
 # usage: tests/foreign_c.sh [i686|armv7|aarch64|s390x] ..; all four where none is named. The first
 # two have sizes of 32 bits, and the last has the other order of bytes. It takes what Debian has, as
 # tests/export/foreign.sh does: the least Rust, the standard libraries, C compilers and qemu-user
-# (i686 runs without it where this processor can). TESTS names some of the programs: `hostile` and
-# `many` take minutes under qemu.
+# (i686 runs without it where this processor can). TESTS names some of the programs: `hostile`
+# takes minutes under qemu.
 set -eu
 cd "$(dirname "$0")/.."
 . tests/export/debian_rust.sh
@@ -34,7 +34,6 @@ passes() {
     CARGO_BUILD_TARGET=$2 CC=$4-gcc LD=$4-ld AR=$4-ar NM=$4-nm OBJCOPY=$4-objcopy \
         tools/rust_c.sh --build "$out"
     sed -n 's/^ \*     //p; /\*\/$/q' include/stunp.h >"$out/answer.h"
-    sed -n 's/^ \*     //p; /\*\/$/q' include/stunp_state.h >"$out/ask.h"
     sed -n 's/^ \*     //p; /\*\/$/q' include/stunp_endpoint.h >"$out/serve.h"
     strict='-std=c99 -O1 -Wall -Wextra -Wpedantic -Werror -Iinclude -Iexamples/c -D_DEFAULT_SOURCE'
     # This processor may run them itself.
@@ -53,7 +52,7 @@ passes() {
     [ "$1" != aarch64 ] || python3 tests/play.py "$out/play" tests/transcripts/*.txt
 }
 
-every='arguments attributes extra agents client endpoint handles hostile ice ice_checks many texts users worked'
+every='arguments attributes extra client endpoint hostile ice ice_checks texts worked'
 [ $# -gt 0 ] || set -- i686 armv7 aarch64 s390x
 fetched || { echo "Debian's rustc-web $least cannot be fetched here." >&2; exit 1; }
 export RUSTC="$at/usr/bin/rustc" CARGO_TARGET_DIR="$PWD/target/foreign"

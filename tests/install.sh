@@ -1,9 +1,8 @@
 #!/bin/sh
 # Installs archives into a scratch folder, builds programs over it, by pkg-config and by CMake if
-# they are installed, and uninstalls all of it. STUN_C, STUN_STATE and STUN_ENDPOINT name the
-# archives by absolute paths; without them they are those of `rt lib`, and without STUN_ENDPOINT
-# alone it is STUN_STATE. If STUN_STATE is the exported archive, the shared library beside it is
-# installed too. If an archive is missing, make says what to run, and nothing is proved. Without a C
+# they are installed, and uninstalls all of it. STUN_C and STUN_ENDPOINT name the archives by
+# absolute paths; without them they are those of `rt lib`. If STUN_ENDPOINT is the exported archive,
+# the shared library beside it is installed too. If an archive is missing, make says what to run, and nothing is proved. Without a C
 # compiler and make nothing is tested. The last line says what was tested.
 set -eu
 cd "$(dirname "$0")"
@@ -15,12 +14,10 @@ if ! there "${CC-}" cc || ! command -v make >/dev/null; then
 fi
 scratch=$(mktemp -d)
 trap 'rm -rf "$scratch"' EXIT
-given=${STUN_STATE:-../crates/stun_c_endpoint/out/libstun_c_endpoint.a}
-STUN_ENDPOINT=${STUN_ENDPOINT:-$given}
+STUN_ENDPOINT=${STUN_ENDPOINT:-../crates/stun_c_endpoint/out/libstun_c_endpoint.a}
 STUN_C=${STUN_C:-../crates/stun_c/out/libstun_c.a}
-STUN_STATE=${STUN_STATE:-../crates/stun_state/out/libstun_state.a}
 kind=proved
-if ${NM:-nm} "$STUN_STATE" 2>/dev/null | grep -q ' T stunp_is_proved$'; then
+if ${NM:-nm} "$STUN_ENDPOINT" 2>/dev/null | grep -q ' T stunp_is_proved$'; then
     kind=exported
 fi
 machine=$($cc -print-multiarch 2>/dev/null) || machine=''
@@ -47,16 +44,12 @@ refuses() {
     [ ! -e "$scratch/started" ] || fail "make -C $* started rt"
 }
 absent=$scratch/absent.a
-refuses ../include install KIND=proved DESTDIR="$root" MESSAGES="$absent" STATE="$STUN_STATE" \
-    OUT="$scratch"
-refuses ../include install DESTDIR="$root" MESSAGES="$STUN_C" STATE="$absent" OUT="$scratch"
-refuses ../include install DESTDIR="$root" MESSAGES="$STUN_C" STATE="$STUN_STATE" \
-    ENDPOINT="$absent" OUT="$scratch"
+refuses ../include install KIND=proved DESTDIR="$root" MESSAGES="$absent" \
+    ENDPOINT="$STUN_ENDPOINT" OUT="$scratch"
+refuses ../include install DESTDIR="$root" MESSAGES="$STUN_C" ENDPOINT="$absent" OUT="$scratch"
 refuses ../include install DESTDIR="$root" MESSAGES="$absent" EXPORTED="$scratch" OUT="$scratch"
-refuses ../examples/c OUT="$scratch/examples" LIBRARY="$absent" STATE="$STUN_STATE"
-refuses ../examples/c udp OUT="$scratch/examples" LIBRARY="$STUN_C" STATE="$absent"
-refuses ../examples/c udp OUT="$scratch/examples" LIBRARY="$STUN_C" STATE="$STUN_STATE" \
-    ENDPOINT="$absent"
+refuses ../examples/c OUT="$scratch/examples" LIBRARY="$absent" ENDPOINT="$STUN_ENDPOINT"
+refuses ../examples/c udp OUT="$scratch/examples" LIBRARY="$STUN_C" ENDPOINT="$absent"
 
 # One program is built, and one is not.
 echo tool >"$scratch/bin/stun_tool"
@@ -64,14 +57,12 @@ chmod +x "$scratch/bin/stun_tool"
 # in_root FOLDER WORD..
 in_root() {
     make -s -C "$@" CC="$cc" DESTDIR="$root" PREFIX=/usr LIBDIR="$libdir" OUT="$scratch/heap" \
-        MESSAGES="$STUN_C" STATE="$STUN_STATE" ENDPOINT="$STUN_ENDPOINT" \
-        EXPORTED="$(dirname "$STUN_STATE")" \
+        MESSAGES="$STUN_C" ENDPOINT="$STUN_ENDPOINT" EXPORTED="$(dirname "$STUN_ENDPOINT")" \
         PROGRAMS="$scratch/bin/stun_tool $scratch/bin/stun_inspect"
 }
 if [ $kind = proved ]; then
     told=$(in_root .. install)
     wanted='the proved archives'
-    cmp -s "$STUN_STATE" "$lib/libstunp_state.a" || fail 'another archive'
     cmp -s "$STUN_ENDPOINT" "$lib/libstunp_endpoint.a" || fail 'another archive'
 else
     # Nobody is told that they are proved.
@@ -79,7 +70,7 @@ else
     rm -rf "$root"
     told=$(in_root .. install KIND=exported)
     wanted='the exported libraries: tested, not proved'
-    cmp -s "$STUN_STATE" "$lib/libstunp.a" || fail 'another archive'
+    cmp -s "$STUN_ENDPOINT" "$lib/libstunp.a" || fail 'another archive'
     loaded=$(objdump -p "$lib/libstunp.so" | sed -n 's/^ *SONAME *//p')
     [ "$(readlink "$lib/libstunp.so")" = "$loaded" ] && [ -f "$lib/$loaded" ] ||
         fail "no library of the name $loaded"
@@ -115,18 +106,16 @@ flags() {
             PKG_CONFIG_ALLOW_SYSTEM_CFLAGS=1 PKG_CONFIG_ALLOW_SYSTEM_LIBS=1 \
             pkg-config --cflags --libs "$@"
     elif [ $kind = proved ]; then
-        echo "-I$root/usr/include -L$lib -lstunp_state -lstunp_endpoint -lstunp -lstunp_heap"
+        echo "-I$root/usr/include -L$lib -lstunp_endpoint -lstunp -lstunp_heap"
     else
         echo "-I$root/usr/include -L$lib -lstunp"
     fi
 }
 strict='-std=c99 -Wall -Wextra -Wpedantic -Werror'
 for memory in "$heap" -DOWN_MEMORY; do
-    $cc $strict $memory c/installed.c $(flags stunp_state) -o "$scratch/installed"
+    $cc $strict $memory c/installed.c $(flags stunp_endpoint) -o "$scratch/installed"
     prints "$version" "$scratch/installed"
 done
-$cc $strict -DENDPOINT $heap c/installed.c $(flags stunp_endpoint) -o "$scratch/endpoint"
-prints "$version" "$scratch/endpoint"
 # The first archive wants no memory.
 $cc c/arguments.c $(flags stunp) -o "$scratch/arguments"
 prints 'arguments: passed' "$scratch/arguments"
@@ -138,16 +127,16 @@ prints $kind "$scratch/is"
 if command -v pkg-config >/dev/null; then checked="$checked, pkg-config"; fi
 # The header for C++.
 if there "${CXX-}" c++; then
-    printf '#include <stunp.hpp>\nint main() { return stunp::server::make("realm") ? 0 : 1; }\n' \
+    printf '#include <stunp.hpp>\nint main() { return stunp::userhash("name", "realm") ? 0 : 1; }\n' \
         >"$scratch/made.cpp"
     ${CXX:-c++} -std=c++17 -Wall -Wextra -Wpedantic -Werror "$scratch/made.cpp" \
-        $(flags stunp_state) -o "$scratch/made"
+        $(flags stunp_endpoint) -o "$scratch/made"
     prints '' "$scratch/made"
     checked="$checked, C++"
 fi
-# The memory functions under other names, by the recipe of stunp_state.h.
+# The memory functions under other names, by the recipe of stunp_endpoint.h.
 if command -v objcopy >/dev/null; then
-    renamed='' archive=$lib/libstunp_state.a
+    renamed='' archive=$lib/libstunp_endpoint.a
     [ $kind = proved ] || archive=$lib/libstunp.a
     for name in alloc realloc dealloc; do
         renamed="$renamed --redefine-sym rattle_$name=mine_$name"
@@ -171,20 +160,20 @@ endif()
 find_package(stunp ${RELEASE} REQUIRED)
 if(TARGET stunp::stunp_heap)
     add_executable(installed ${SOURCE})
-    target_link_libraries(installed stunp::stunp_state stunp::stunp_heap)
+    target_link_libraries(installed stunp::stunp_endpoint stunp::stunp_heap)
 else()
     add_executable(installed ${SOURCE} ${HEAP})
     target_compile_definitions(installed PRIVATE HEAP_SOURCE)
     get_filename_component(folder ${HEAP} DIRECTORY)
     target_include_directories(installed PRIVATE ${folder})
-    target_link_libraries(installed stunp::stunp_state)
+    target_link_libraries(installed stunp::stunp_endpoint)
 endif()
 add_executable(alone ${SOURCE})
 target_compile_definitions(alone PRIVATE OWN_MEMORY)
 if(TARGET stunp::stunp_static)
     target_link_libraries(alone stunp::stunp_static)
 else()
-    target_link_libraries(alone stunp::stunp_state)
+    target_link_libraries(alone stunp::stunp_endpoint)
 endif()
 PROJECT
     quiet env CC="$cc" cmake -S "$scratch/project" -B "$scratch/built" \

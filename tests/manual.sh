@@ -12,7 +12,7 @@ python3 - "$scratch" <<'CHECK'
 import re, sys
 from pathlib import Path
 pages, count, errors = Path(sys.argv[1]), 0, 0
-headers = ("stunp.h", "stunp_state.h", "stunp_endpoint.h", "stunp_sockaddr.h", "stunp_log.h")
+headers = ("stunp.h", "stunp_endpoint.h", "stunp_sockaddr.h", "stunp_log.h")
 for header in headers:
     text = Path("include", header).read_text()
     for comment, declared, name in re.findall(

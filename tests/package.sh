@@ -166,7 +166,7 @@ library=$(sed -n 's/^Package: \(libstunp[0-9].*\)/\1/p' stunp/debian/control)
 {
     echo "libstunp.so.${library#libstunp} $library #MINVER#"
     echo '* Build-Depends-Package: libstunp-dev'
-    cat stunp/include/stunp.h stunp/include/stunp_state.h stunp/include/stunp_endpoint.h |
+    cat stunp/include/stunp.h stunp/include/stunp_endpoint.h |
         sed -n '/^template/d; s/^\([A-Za-z].*[ *]\)\{0,1\}\(stunp_[a-z0-9_]*\)(.*/\2/p' |
         LC_ALL=C sort | sed "s/.*/ &@Base $(cat stunp/VERSION)/"
 } >"stunp/debian/$library.symbols"

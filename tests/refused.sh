@@ -1,10 +1,9 @@
 #!/bin/sh
 # Tests what the headers make a compiler and a linker refuse: exchanged arguments, a result that
 # nobody looks at, a null output, a length that is not that of the array, and a program that was
-# compiled against another release. STUN_C is the archive of stunp.h, STUN_STATE that of
-# stunp_state.h, and STUN_ENDPOINT that of stunp_endpoint.h (without it, STUN_STATE). LIBRARIES has
-# what they need in addition. Without a C compiler nothing is tested, and without an archive nothing
-# is linked.
+# compiled against another release. STUN_C is the archive of stunp.h, and STUN_ENDPOINT
+# that of stunp_endpoint.h. LIBRARIES has what they need in addition. Without a C compiler nothing is
+# tested, and without an archive nothing is linked.
 set -eu
 cd "$(dirname "$0")"
 cc=${CC:-cc}
@@ -48,18 +47,18 @@ warns() {
     printf '#if !__has_attribute(%s)\n#error\n#endif\n' "$1" |
         $cc -fsyntax-only -x c - 2>/dev/null || return 0
     for statement in '(void)0;' "$3"; do
-        printf '#include "stunp_state.h"\n#include "stunp_endpoint.h"\n' >"$scratch/statement.c"
-        printf 'int statement(const uint8_t *bytes, size_t length, stunp_server *server) {\n' \
+        printf '#include "stunp_endpoint.h"\n' >"$scratch/statement.c"
+        printf 'int statement(const uint8_t *bytes, size_t length) {\n' \
             >>"$scratch/statement.c"
         printf '    uint8_t key[16] = {1}, out[20];\n    stunp_address from = {{0}, 1, 4};\n' \
             >>"$scratch/statement.c"
         printf '    stunp_endpoint_server endpoint = {0};\n    stunp_endpoint_users users = {0};\n' \
             >>"$scratch/statement.c"
-        printf '    uint32_t words[16] = {0};\n    int64_t got = 0;\n    %s\n' "$statement" \
+        printf '    int64_t got = 0;\n    %s\n' "$statement" \
             >>"$scratch/statement.c"
-        printf '    (void)bytes, (void)length, (void)server, (void)key, (void)out, (void)from;\n' \
+        printf '    (void)bytes, (void)length, (void)key, (void)out, (void)from;\n' \
             >>"$scratch/statement.c"
-        printf '    (void)words, (void)endpoint, (void)users;\n    return got == 0;\n}\n' >>"$scratch/statement.c"
+        printf '    (void)endpoint, (void)users;\n    return got == 0;\n}\n' >>"$scratch/statement.c"
         build="$cc $strict -O1 -c $scratch/statement.c -o $scratch/statement.o"
         case $statement in
         '(void)0;') $build ;;
@@ -71,13 +70,8 @@ verify='stunp_verify(bytes, length, key'
 warns warn_unused_result unused-result "$verify, sizeof key);"
 warns warn_unused_result unused-result 'stunp_is_signed(bytes, length, "key", 3);'
 warns warn_unused_result unused-result 'stunp_has_right_fingerprint(bytes, length);'
-warns warn_unused_result unused-result 'stunp_is_authentic(got);'
-warns warn_unused_result unused-result \
-    'stunp_server_validate(server, bytes, length, &from, 0, words);'
 warns warn_unused_result unused-result 'stunp_sign(out, 20, 20, STUNP_SHA1, key, 16);'
 warns nonnull nonnull 'got = stunp_read_header(bytes, length, NULL);'
-warns nonnull nonnull 'got = stunp_server_validate(server, bytes, length, NULL, 0, words);'
-warns nonnull nonnull 'got = stunp_server_validate(NULL, bytes, length, &from, 0, words);'
 warns access stringop-over "got = $verify, 32);"
 warns warn_unused_result unused-result \
     'stunp_endpoint_server_receive(&endpoint, &users, bytes, length, &from, 0, out, 20, NULL);'
@@ -100,30 +94,6 @@ if [ -n "${STUN_C-}" ]; then
     wants stunp_release_0_1 links -Dstunp_release_0_3=stunp_release_0_1 -DSTUNP_CHECK_RELEASE
 fi
 
-# The same of stunp_state.h: a transport is no feature.
-cat >"$scratch/agent.c" <<'AGENT'
-#include "stunp_state.h"
-int main(void) {
-    stunp_agent agent = {0};
-    stunp_address at = {{0}, 1, 4};
-    int64_t answer = stunp_agent_new(&agent, WHICH, &at);
-    stunp_agent_free(&agent);
-    return answer == 0 ? 0 : 1;
-}
-AGENT
-$cc $strict -DWHICH=STUNP_TCP -fsyntax-only "$scratch/agent.c"
-wants enum-conversion $cc $strict -DWHICH=STUNP_REQUIRED -fsyntax-only "$scratch/agent.c"
-keeps() {
-    $cc $strict -DWHICH=STUNP_TCP "$@" "$scratch/agent.c" ../examples/c/heap.c \
-        "$STUN_STATE" "$STUN_C" ${LIBRARIES-} -o "$scratch/agent" && "$scratch/agent"
-}
-if [ -n "${STUN_C-}" ] && [ -n "${STUN_STATE-}" ]; then
-    keeps
-    keeps -Dstunp_state_release_0_3=stunp_state_release_0_1
-    wants stunp_state_release_0_1 \
-        keeps -Dstunp_state_release_0_3=stunp_state_release_0_1 -DSTUNP_CHECK_RELEASE
-fi
-
 # The same of stunp_endpoint.h.
 cat >"$scratch/endpoint.c" <<'ENDPOINT'
 #include "stunp_endpoint.h"
@@ -135,10 +105,10 @@ int main(void) {
 ENDPOINT
 shares() {
     $cc $strict "$@" "$scratch/endpoint.c" ../examples/c/heap.c \
-        "${STUN_ENDPOINT:-$STUN_STATE}" "$STUN_C" ${LIBRARIES-} -o "$scratch/endpoint" &&
+        "$STUN_ENDPOINT" "$STUN_C" ${LIBRARIES-} -o "$scratch/endpoint" &&
         "$scratch/endpoint"
 }
-if [ -n "${STUN_C-}" ] && [ -n "${STUN_STATE-}" ]; then
+if [ -n "${STUN_C-}" ] && [ -n "${STUN_ENDPOINT-}" ]; then
     shares
     shares -Dstunp_endpoint_release_0_3=stunp_endpoint_release_0_1
     wants stunp_endpoint_release_0_1 \

@@ -38,7 +38,7 @@ for file in README.md SECURITY.md CHANGELOG.md CONTENTS.md LICENSE-APACHE LICENS
     [ -s "$folder/$file" ] || fail "no $file"
 done
 for word in commit: toolchain: 'the gate: ' 'rt: ok; ' 'libstun_c.a: logic=proved' \
-    'libstun_state.a: logic=proved' 'libstun_c_endpoint.a: logic=proved'; do
+    'libstun_c_endpoint.a: logic=proved'; do
     grep -q "^$word" "$folder/PROOF" || fail "PROOF has no line $word"
 done
 
@@ -48,7 +48,7 @@ in_c() {
     $cc $strict check.c $(pkg-config --cflags --libs stunp) -o check
     prints valid ./check <pages/request.hex
     for memory in LIBRARYS_MEMORY OWN_MEMORY; do
-        $cc $strict -D$memory installed.c $(pkg-config --cflags --libs stunp_state) -o installed
+        $cc $strict -D$memory installed.c $(pkg-config --cflags --libs stunp_endpoint) -o installed
         prints "$version" ./installed
     done
     prints "$version" pkg-config --modversion stunp_heap
@@ -85,7 +85,7 @@ find_package(stunp ${RELEASE} EXACT REQUIRED)
 add_executable(check ${PLACE}/check.c)
 target_link_libraries(check stunp::stunp)
 add_executable(installed ${PLACE}/installed.c)
-target_link_libraries(installed stunp::stunp_state)
+target_link_libraries(installed stunp::stunp_endpoint)
 PROJECT
     sed -n '/^    #include <stdio.h>/,/^    }$/s/^    //p' "$folder/README.md" >check.c
     quiet cmake -S project -B built -DCMAKE_PREFIX_PATH="$prefix" -DRELEASE="$version" \

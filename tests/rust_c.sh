@@ -13,7 +13,7 @@ fail() {
 
 # The libraries have the calls that the headers declare, also those with a body there, and show no
 # other symbol.
-cat include/stunp.h include/stunp_state.h include/stunp_endpoint.h |
+cat include/stunp.h include/stunp_endpoint.h |
     sed -n '/^template/d; s/^\([A-Za-z].*[ *]\)\{0,1\}\(stunp_[a-z0-9_]*\)(.*/\2/p' |
     sort > "$out/declared"
 for seen in "-g $out/libstunp.a" "-D $out/libstunp.so"; do
@@ -38,7 +38,7 @@ esac
 ! readelf -SW "$out/libstunp.so" | grep -E ' \.(tdata|tbss|init_array) ' >&2 ||
     fail 'the shared library has thread-locals, or runs code when it is loaded'
 # To include a header is to link nothing.
-printf '#include "%s"\n' stunp.h stunp_state.h stunp_endpoint.h > "$out/included.c"
+printf '#include "%s"\n' stunp.h stunp_endpoint.h > "$out/included.c"
 ${CC:-cc} -O0 -Iinclude -c "$out/included.c" -o "$out/included.o"
 [ -z "$(nm -u "$out/included.o")" ] || fail 'a program that includes the headers wants the library'
 # The calls that are done in C are the library's, so that a later one corrects programs.
@@ -96,7 +96,7 @@ for name in arguments attributes extra log sockaddr; do
     expect "$name: passed" "$out/$name"
     expect "$name: passed" "$out/$name-shared"
 done
-expect "refused: passed" env STUN_C="$out/libstunp.a" STUN_STATE="$out/libstunp.a" \
+expect "refused: passed" env STUN_C="$out/libstunp.a" STUN_ENDPOINT="$out/libstunp.a" \
     LIBRARIES="$libraries" tests/refused.sh
 LIBRARIES="$libraries" tests/memory.sh "$out"
 # Programs that use the calls as they are not meant, and one that is built for this library and runs
@@ -105,9 +105,8 @@ tests/misuse.sh "$out"
 tests/next.sh
 # These look at the memory that is taken. `worked` has the examples of the headers.
 sed -n 's/^ \*     //p; /\*\/$/q' include/stunp.h > "$out/answer.h"
-sed -n 's/^ \*     //p; /\*\/$/q' include/stunp_state.h > "$out/ask.h"
 sed -n 's/^ \*     //p; /\*\/$/q' include/stunp_endpoint.h > "$out/serve.h"
-for name in agents client endpoint handles hostile ice ice_checks many texts users worked play; do
+for name in client endpoint hostile ice ice_checks texts worked play; do
     ${CC:-cc} $strict -I"$out" "tests/c/$name.c" examples/c/heap.c "$out/libstunp.a" $libraries \
         -o "$out/$name"
     [ $name = play ] || expect "$name: passed" "$out/$name"
@@ -117,13 +116,13 @@ python3 tests/play.py "$out/play" tests/transcripts/*.txt $endpoints/look-ups.*.
     $endpoints/ice.*.txt $endpoints/client.*.txt > "$out/played" ||
     { cat "$out/played" >&2; exit 1; }
 tail -n 1 "$out/played"
-# The same installed, in the place of the three archives, and the manual.
+# The same installed, in the place of both archives, and the manual.
 tests/manual.sh
-STUN_C="$out/libstunp.a" STUN_STATE="$out/libstunp.a" LIBRARIES="$libraries" tests/install.sh
+STUN_C="$out/libstunp.a" STUN_ENDPOINT="$out/libstunp.a" LIBRARIES="$libraries" tests/install.sh
 if [ "${1-}" = udp ]; then
     built=target/export/target/debug/examples
     (cd target/export && cargo build --quiet --examples)
-    STUN_C="$out/libstunp.a" STUN_STATE="$out/libstunp.a" LIBRARIES="$libraries" \
+    STUN_C="$out/libstunp.a" STUN_ENDPOINT="$out/libstunp.a" LIBRARIES="$libraries" \
         python3 tests/udp/check.py --server "$built/udp_server" --client "$built/udp_client"
 fi
 echo "rust_c: passed"

@@ -1,7 +1,6 @@
 """What a paragraph of a transcript is played on: the calls of the archives for C, and their answers
 in the words of transcripts."""
 
-import struct
 import subprocess
 import sys
 
@@ -10,11 +9,8 @@ from stage_endpoints import *
 from wording import *
 
 AMPLE = 4096
-USUAL_FROM, USUAL_PEER = address("10.0.0.1:12345"), address("10.0.0.2:3478")
-DEFAULT_TIMEOUTS = (500 * 10**6, FOREVER, 8 * 10**9, 7)
+USUAL_FROM = address("10.0.0.1:12345")
 ALGORITHM_NUMBERS = {"sha1": 1, "sha256": 2}
-FEATURES = {"auto": 0, "required": 1, "disabled": 2}
-TRANSPORTS = {"udp": 0, "tcp": 1}
 
 # What the archives lack and what changes nothing that is played: objects apart from all others, and
 # calls that only tell something.
@@ -35,13 +31,10 @@ TELLING = (
 WRITERS = ("agent", "client", "meet", "serve", "server", "short-term", "write")
 # The calls of the archive that may allocate.
 ALLOCATING = (
-    "agent-handle", "agent-new", "agent-new-with", "agent-send-request", "agent-validated-peer",
-    "client-new", "client-set-credentials", "client-sign", "client-validate",
     "endpoint-build", "endpoint-client-new", "endpoint-client-receive",
     "endpoint-client-request", "endpoint-server-identify", "endpoint-server-receive",
     "endpoint-server-resume", "endpoint-users-add", "endpoint-users-add-keys",
     "ice-check", "ice-check-body", "ice-new", "ice-offer", "ice-receive", "ice-set-peer",
-    "server-add-user", "server-new", "server-sign", "server-validate",
 )
 # The calls that need a server of the endpoint.
 BUILT_FIRST = ("hears", "identifies", "add-user", "remove-user", "responds")
@@ -78,21 +71,15 @@ class Child:
 
 
 class Stage(Endpoints):
-    """An agent, a server and a client as they are made, and what surrounds them."""
+    """Messages and endpoints, and what surrounds them."""
 
     def __init__(self, child, meanings):
         self.child, self.ask, self.meanings = child, child.ask, meanings
-        self.now, self.origin, self.draws = 0, USUAL_FROM, [0] * 16
-        self.kept, self.asked = {}, {}
-        self.algorithms = {"server": 1, "client": 1}
-        self.counts = self.is_untimed = False
+        self.now, self.origin, self.kept = 0, USUAL_FROM, {}
         self.writer = self.room = None
         self.settings, self.built, self.has_request = {}, None, False
         self.begin_endpoints()
         child.reset()
-        self.ask("server-new", b"")
-        self.ask("client-new")
-        self.ask("agent-new", 0, wide(USUAL_FROM))
 
     # ---- Lines.
 
@@ -115,10 +102,8 @@ class Stage(Endpoints):
     def make(self, words, written):
         if words[:1] == ["from"]:
             self.origin = address(words[1])
-        elif words[:2] == ["draw", "all"]:
-            self.draws = [number(words[2])] * 16
         elif words[:1] == ["draw"]:
-            self.draws = ([number(word) for word in words[1:]] + [0] * 16)[:16]
+            pass  # random numbers of a server that is left out
         elif words[1:2] == ["="] and words[2] in WRITERS:
             name, told = self.call(words[2:], written)
             try:
@@ -166,19 +151,6 @@ class Stage(Endpoints):
     def left(self):
         raise Left(self.name)
 
-    def set_algorithms(self, object, word, old):
-        if word not in ALGORITHM_NUMBERS:
-            raise Words(word)
-        self.algorithms[object] = old | ALGORITHM_NUMBERS[word]
-        return self.asked_for(f"{object}-set-algorithms", self.algorithms[object])
-
-    def set_feature(self, object, word):
-        return self.asked_for(f"{object}-set-anonymous-username", FEATURES[word])
-
-    def signed(self, object, room, message):
-        to = [wide(self.origin)] if object == "server" else []
-        return self.written_by(message, self.ask(f"{object}-sign", room, message, *to))
-
     def walk(self, message):
         """Type, offset and length of each visible attribute, by stunp_next, which returns the place
         of its value."""
@@ -202,104 +174,6 @@ class Stage(Endpoints):
             key = self.ask("long-term-key", algorithm,
                            *(part.encode() for part in word.split(":", 2)), 32)[1][0]
         return self.asked_for("verify", message, key, names=VERDICTS)
-
-    # ---- The server.
-
-    def server_new(self, realm):
-        told = self.asked_for("server-new", text(realm))
-        self.algorithms["server"] = self.algorithms["server"] if told else 1
-        return told
-
-    def server_add_user(self, name, password):
-        return self.asked_for("server-add-user", text(name), password.encode())
-
-    def server_remove_user(self, name):
-        return self.asked_for("server-remove-user", text(name))
-
-    def server_remove_client(self):
-        return self.asked_for("server-remove-client", wide(self.origin))
-
-    def server_forget(self, word=None):
-        if word:
-            return self.asked_for("server-forget", wide(address(word)))
-        return self.asked_for("server-forget-expired", self.now, 0)
-
-    def server_forget_some(self, most, word=None):
-        start = wide(address(word)) if word else wide((b"", 0))
-        answer, outputs = self.ask("server-forget-expired-within", self.now, 0, start,
-                                   number(most))
-        return address_text(*address_in(outputs[0])) if answer == 1 else "none"
-
-    def server_support(self, word):
-        return self.set_algorithms("server", word, self.algorithms["server"])
-
-    def server_support_only(self, word):
-        return self.set_algorithms("server", word, 0)
-
-    def server_hashes(self, word=None):
-        return self.set_feature("server", word) if word else self.left()
-
-    def server_expiry(self, word=None):
-        # Less than 30 s C takes as 30 s, and the transcripts do not understand.
-        return self.asked_for("server-set-nonce-expiry", nanos(word)) if word else self.left()
-
-    def server_hears(self, *words):
-        return self.asked_for("server-validate", self.message(words), wide(self.origin), self.now,
-                              *self.draws, names=VERDICTS)
-
-    def server_signs(self, *words):
-        message = self.message(words)
-        return self.signed("server", len(message) + AMPLE, message)
-
-    def server_signs_in(self, room, *words):
-        return self.signed("server", number(room), self.message(words))
-
-    def server_signs_length(self, *words):
-        return length_of(self.server_signs(*words))
-
-    def server_client(self):
-        answer, outputs = self.ask("server-client", wide(self.origin), AMPLE)
-        return f"{outputs[0].decode()} {VERDICTS[answer]}" if answer > 0 else "none"
-
-    def server_nonce(self):
-        answer, outputs = self.ask("server-nonce", wide(self.origin), AMPLE)
-        return outputs[0].decode() if answer > 0 else "none"
-
-    # ---- The client.
-
-    def client_new(self):
-        told = self.asked_for("client-new")
-        self.algorithms["client"] = self.algorithms["client"] if told else 1
-        return told
-
-    def client_user(self, name=None, password=None):
-        return self.asked_for("client-set-credentials", text(name),
-                              text(password)) if name else self.left()
-
-    def client_support(self, word):
-        return self.set_algorithms("client", word, self.algorithms["client"])
-
-    def client_support_only(self, word):
-        return self.set_algorithms("client", word, 0)
-
-    def client_hashes(self, word=None):
-        return self.set_feature("client", word) if word else self.left()
-
-    def client_algorithm(self):
-        return self.asked_for("client-signing-algorithm", names={0: "none", **VERDICTS})
-
-    def client_hears(self, *words):
-        return self.asked_for("client-validate", self.message(words), names=VERDICTS)
-
-    def client_signs(self, *words):
-        message = self.message(words)
-        return self.signed("client", len(message) + AMPLE, message)
-
-    def client_signs_in(self, room, *words):
-        return self.signed("client", number(room), self.message(words))
-
-    def client_signs_length(self, *words):
-        return length_of(self.client_signs(*words))
 
     # ---- A server of the endpoint.
 
@@ -429,112 +303,6 @@ class Stage(Endpoints):
             return self.ask("add-xor-mapped-address", room, page, *address(value))
         spelling = Spelling()
         return self.ask("add", room, page, attribute_type(name), spelling.value_of(name, value))
-
-    # ---- The agent.
-
-    def agent_new(self, transport, *words):
-        local, remote, waits = USUAL_FROM, (b"", 0), None
-        if words[:1] == ("from",):
-            local, words = address(words[1]), words[2:]
-        if words[:1] == ("to",):
-            remote, words = address(words[1]), words[2:]
-        if words[:1] == ("timeouts",):
-            waits, words = timeouts(words[1], words[2], words[4], words[3]), words[5:]
-        own = [TRANSPORTS[transport], wide(local)]
-        answer = (self.ask("agent-new-with", *own, wide(remote), *(waits or DEFAULT_TIMEOUTS))
-                  if remote[0] or waits else self.ask("agent-new", *own))
-        if answer[0] == 0:
-            self.counts, self.is_untimed, self.asked = words == ("counts",), False, {}
-        return self.told(answer)
-
-    def peer_and(self, words):
-        """The address that words begin with, or the usual one, and the message."""
-        try:
-            peer = address(words[0])
-        except (Words, IndexError):
-            return USUAL_PEER, self.message(words)
-        return peer, self.message(words[1:])
-
-    def sent(self, answer):
-        return "sent" if answer == 0 else REFUSALS[answer]
-
-    def agent_asks(self, *words):
-        to, message = self.peer_and(words)
-        answer, _ = self.ask("agent-send-request", message, wide(to), self.now)
-        if answer == 0:
-            self.asked[message[8:20]] = message, to
-        return self.sent(answer)
-
-    def agent_sends(self, *words):
-        to, message = self.peer_and(words)
-        return self.sent(self.ask("agent-send", message, wide(to))[0])
-
-    def agent_takes_timed(self, *words):
-        origin, message = self.peer_and(words)
-        return self.asked_for("agent-handle", message, wide(origin), self.now,
-                              names={0: "false", 1: "true"})
-
-    def agent_takes(self, *words):
-        # C always tells the agent the time, so it measures a round trip where the transcript
-        # measures none.
-        told = self.agent_takes_timed(*words)
-        self.is_untimed |= told == "true"
-        return told
-
-    def agent_validate(self, peer):
-        return self.asked_for("agent-validated-peer", wide(address(peer)))
-
-    def agent_is_validated(self, *peers):
-        answers = [self.ask("agent-is-validated-peer", wide(address(peer)))[0] for peer in peers]
-        return " ".join({0: "false", 1: "true"}[answer] for answer in answers)
-
-    def agent_request(self, identity):
-        # C does not say by which algorithm it is signed.
-        answer, outputs = self.ask("agent-is-outstanding", id_of(identity))
-        return f"to {address_text(*address_in(outputs[0]))}" if answer == 1 else "none"
-
-    def agent_cancel(self, identity):
-        return self.asked_for("agent-cancel", id_of(identity), names={0: "none"})
-
-    def agent_cancel_retransmissions(self, identity):
-        return self.asked_for("agent-cancel-retransmissions", id_of(identity), names={0: "none"})
-
-    def agent_configure(self, identity, initial, transmissions, last, longest="max"):
-        waits = timeouts(initial, longest, last, transmissions)
-        return self.asked_for("agent-configure", id_of(identity), *waits, names={0: "none"})
-
-    def agent_poll(self):
-        answer, outputs = self.ask("agent-poll", self.now, 12)
-        if answer == 0:
-            return f"wait {moment_text(native(outputs[0]))}"
-        return f"{ {1: 'timed out', 2: 'cancelled'}[answer] } {int.from_bytes(outputs[0], 'big')}"
-
-    def agent_transmit(self):
-        return self.agent_transmit_within("65552")
-
-    def agent_transmit_within(self, room):
-        answer, outputs = self.ask("agent-poll-transmit", self.now, number(room))
-        if answer <= 0:
-            return {0: "none", -10: "NoRoom"}[answer]
-        for identity, sent in self.asked.items():
-            if sent == (outputs[0], address_in(outputs[1])):
-                return str(int.from_bytes(identity, "big"))
-        return f"{outputs[0].hex()} to {address_text(*address_in(outputs[1]))}"
-
-    def agent_counts(self):
-        # C always counts, and does not tell how many requests are outstanding.
-        if not self.counts or self.is_untimed:
-            self.left()
-        counts = struct.unpack("@N14Q", self.ask("agent-statistics")[1][0])[1:]
-        pairs = zip(("requests", "responses", "indications", "bytes"), (*counts[0:6:2], counts[8]),
-                    (*counts[1:6:2], counts[9]))
-        parts = [f"{name}={sent}/{received}" for name, sent, received in pairs if sent or received]
-        parts += [f"{name}={count}" for name,
-                  count in zip(("timed-out", "cancelled"), counts[6:8]) if count]
-        if any(counts[10:]):
-            parts.append(f"round-trips={counts[10]}/"
-                         + "/".join(span_text(count) for count in counts[11:]))
-        return " ".join(parts) or "nothing"
 
     # ---- Messages, attributes and digests.
 

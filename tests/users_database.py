@@ -116,7 +116,7 @@ def in_c(folder):
         return None, "no libpq-dev"
     subprocess.run(["make", "-s", "-C", TOP / "examples/c", f"CC={compiler}", f"OUT={folder}",
                     "CFLAGS=-O1 -g -Wall -Wextra -Wpedantic -Wconversion -Werror",
-                    *(f"{name}={ARCHIVE}" for name in ("LIBRARY", "STATE", "ENDPOINT")),
+                    *(f"{name}={ARCHIVE}" for name in ("LIBRARY", "ENDPOINT")),
                     "SYSTEM=-lpthread -ldl -lm", f"{folder}/users_server"], check=True)
     return pathlib.Path(folder, "users_server"), None
 

@@ -62,10 +62,6 @@ def shown(value):
     return letters or "-"
 
 
-def timeouts(initial, longest, last, transmissions):
-    return nanos(initial), nanos(longest), nanos(last), number(transmissions)
-
-
 def name_of(words):
     return words[0] if words[:1] == ["memory"] else " ".join(words[:2])
 
@@ -76,14 +72,6 @@ def type_text(class_number, method):
     bits |= (class_number & 1) << 4 | (class_number & 2) << 7
     response = " response" if class_number >= 2 else ""
     return f"0x{bits:04x} {list(CLASSES)[class_number]}{response} 0x{method:03x}"
-
-
-def length_of(told):
-    """How many bytes were told, or why none were."""
-    try:
-        return str(len(unhex(told)))
-    except Words:
-        return told
 
 
 def fits(name, came, written, now):

@@ -14,7 +14,7 @@ prove() {
     [ "$ended" = 3 ] || return "$ended"
     (cd "crates/$1" && rt lib)
 }
-for crate in stun_c stun_state stun_c_endpoint; do
+for crate in stun_c stun_c_endpoint; do
     { prove $crate 2>&1 || echo >"$said.failed"; } | tee "$said"
     [ ! -e "$said.failed" ] || exit 1
     cat "$said" >crates/$crate/out/proof.txt

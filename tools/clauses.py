@@ -22,7 +22,7 @@ FIRST = ("stun_endpoint", "stun_client_calls", "stun_client_endpoint", "stun_ice
          "stun_requests", "stun_exchanges", "stun_sessions", "stun_peers", "stun_peer_runs",
          "stun_proto", "stun_base", "stun_types", "stun_agent", "stun_judging", "stun_auth",
          "stun_extra", "stun_attributes", "stun_buffer", "stun_client", "stun_client_requests",
-         "stun_numbers", "stun_c", "stun_handles", "stun_state", "stun_c_endpoint")
+         "stun_numbers", "stun_c", "stun_handles", "stun_c_endpoint")
 HEAD = """\
 # The clauses of each public function
 

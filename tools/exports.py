@@ -1,12 +1,11 @@
 #!/usr/bin/env python3
-"""Compares include/stunp.h, include/stunp_state.h and include/stunp_endpoint.h with the exports of
-stun_c, stun_state and stun_c_endpoint and with what examples/rust declares.
+"""Compares include/stunp.h and include/stunp_endpoint.h with the exports of stun_c and
+stun_c_endpoint and with what examples/rust declares.
 
 Functions are compared by name, result, and the types of parameters in their order, those of a
 closed family by its enum. What a declaration says to compilers, `STUNP_READS` and the like, is
 compared with what its parameters want. The structs but the handles are compared by their fields.
-The numbers of refusals, attribute types, methods, classes, algorithms, transports, features and
-fingerprints are compared with the sources, and so are lengths. The handles' fields and the numbers
+The numbers of refusals, attribute types, methods, classes, algorithms, features and fingerprints are compared with the sources, and so are lengths. The handles' fields and the numbers
 of other answers are not compared. The calls and structs for C are looked for in all of the crates.
 The definitions of attribute types are the table with which all other places are compared: the
 registry of stun_inspect, the lists of types that must be understood, and the pages that list
@@ -28,8 +27,7 @@ PASSED = {
     "u8": "uint8_t", "u16": "uint16_t", "u32": "uint32_t", "u64": "uint64_t", "usize": "size_t",
     "i64": "int64_t", "bool": "bool", "&[u32; 16]": "const uint32_t *",
     "&[u16]": "const uint16_t *, size_t", "&mut [u16]": "uint16_t *, size_t",
-    "Address": "stunp_address", "Timeouts": "stunp_timeouts", "Statistics": "stunp_statistics",
-    "Header": "stunp_header", "Cursor": "stunp_cursor", "&[u8; 32]": "const uint8_t *",
+    "Address": "stunp_address", "Header": "stunp_header", "Cursor": "stunp_cursor", "&[u8; 32]": "const uint8_t *",
     "Received": "stunp_received", "Reply": "stunp_reply",
     "IceReceived": "stunp_ice_received", "IceCheck": "stunp_ice_check",
     "&[u8; 12]": "const uint8_t *", "Event": "stunp_event", "Dropped": "stunp_dropped",
@@ -37,7 +35,7 @@ PASSED = {
 }
 # The enum of a number by its name in Rattle and Rust.
 ENUMS = {"class": "stunp_message_class", "message_class": "stunp_message_class",
-         "algorithm": "stunp_algorithm", "transport": "stunp_transport", "feature": "stunp_feature"}
+         "algorithm": "stunp_algorithm", "feature": "stunp_feature"}
 # The enum of a number in a struct.
 FIELDS = {("Received", "kind"): "stunp_kind", ("Received", "why"): "stunp_drop",
           ("IceReceived", "kind"): "stunp_kind", ("IceReceived", "why"): "stunp_drop",
@@ -49,8 +47,7 @@ EXPORTED_ONLY = ("stunp_set_memory",)
 NUMBERS = {
     "stunp_message_class": ("stun_c/src/header.rt", r"MessageClass::(\w+) => (\d+)"),
     "stunp_algorithm": ("stun_numbers/src/algorithm.rt", r"IntegrityAlgorithm::(\w+) => (\d+)"),
-    "stunp_transport": ("stun_state/src/agent.rt", r"(\d+) => Ok\(TransportType::(\w+)\)"),
-    "stunp_feature": ("stun_state/src/codes.rt", r"(\d+) => Ok\(Feature::(\w+)\)"),
+    "stunp_feature": ("stun_c_endpoint/src/client/settings.rt", r"(\d+) => Feature::(\w+)"),
     "fingerprint": ("stun_c/src/fingerprint.rt", r"Fingerprint::(\w+) => (\d+)"),
     "stunp_drop": ("stun_c_endpoint/src/received.rt", r"DropReason::(\w+) => (\d+)"),
     "stunp_cause": ("stun_c_endpoint/src/server.rt", r"Cause::(\w+)\) => (\d+)"),
@@ -115,7 +112,6 @@ PARAGRAPHS = [(TYPES[2], "-- The types of attributes:"), (ALIASES[1], "//! Furth
 # UNKNOWN-ATTRIBUTES is in the paragraph above it, and PASSWORD-ALGORITHMS is in it because
 # stun_extra reads all of its list.
 FURTHER = ("docs/DEFINITIONS.md", "**Further attributes**")
-HANDLES = ("stunp_agent *", "stunp_server *", "stunp_client *", "stunp_user *")
 wrong, compared, were_read = [], 0, {}
 
 def read(*paths):
@@ -145,41 +141,26 @@ def enums_of_header(text):
     return {name: [int(number, 0) for number in re.findall(r"= (-?\w+)", body)]
             for body, name in re.findall(r"typedef enum \w+ \{([^}]*)\} (\w+);", text)}
 
-def handle_in_c(kind, label, function):
-    """The C type of a handle: of `StateHandle` the one that the function's name begins with, if the
-    parameter is called `handle`, and else, as of `EndpointHandle`, that of the parameter's name."""
-    if kind == "StateHandle":
-        return "_".join(function.split("_")[:2]) if label == "handle" else f"stunp_{label}"
+def handle_in_c(label):
+    """The C type of a handle, by the name of the parameter."""
     return "stunp_ice_checker" if label == "checker" else f"stunp_endpoint_{label}"
 
-def in_c(kind, label, function, enums):
+def in_c(kind, label, enums):
     """The C types of a type."""
     if kind == "u32" and ENUMS.get(label) in enums:
         return [ENUMS[label]]
     if kind in PASSED:
         return PASSED[kind].split(", ") if PASSED[kind] else []
     pointer, name = re.fullmatch(r"(&mut |&|\*mut |\*const )(\w+)", kind).groups()
-    name = handle_in_c(name, label, function) if name.endswith("Handle") else PASSED[name]
+    name = handle_in_c(label) if name.endswith("Handle") else PASSED[name]
     return [("const " if pointer in ("&", "*const ") else "") + name + " *"]
 
 def functions_of_rust(text, before, enums):
     parts = lambda listed: re.findall(r"(\w+): (.+?)\s*(?:,\s*(?=\w+:)|,?\s*$)", listed)
     found = re.findall(before + r"fn (\w+)\(([^)]*)\)(?: -> (\w+))?", text)
-    return {name: in_c(result, "", name, enums)
-            + [c for label, kind in parts(listed) for c in in_c(kind, label, name, enums)]
+    return {name: in_c(result, "", enums)
+            + [c for label, kind in parts(listed) for c in in_c(kind, label, enums)]
             for name, listed, result in found}
-
-def with_constants(text, functions):
-    """The same, where the handle that a call leaves, by its clause `same`, is const in C."""
-    found = re.findall(r'extern "C" fn (\w+)\(([^)]*)\)[^\n]*\n(.*?)\n\{\n', text, re.DOTALL)
-    left = {}
-    for name, listed, clauses in found:
-        for label in re.findall(r"ensures same \{ (?:KeepsHandle )?(\w+)\.new", clauses):
-            kind = re.search(rf"\b{label}: &mut (\w+)", listed)[1]
-            if kind == "StateHandle":
-                left[name] = handle_in_c(kind, label, name) + " *"
-    return {name: [f"const {kind}" if kind in HANDLES and kind == left.get(name) else kind
-                   for kind in kinds] for name, kinds in functions.items()}
 
 def functions_of_header(text):
     """Bytes that are read are texts, keys or values of any type in C."""
@@ -192,12 +173,11 @@ def functions_of_header(text):
 
 # Calls whose result may be ignored: what they do, they do as far as they can, or they cannot fail.
 MAY_IGNORE = re.compile(
-    r"stunp_((agent|server|client|user)_(new(_with|_of_keys)?|set_\w+|add_user|remove_\w+|"
-    r"forget\w*|cancel\w*|configure|statistics|validated_peer|send)|read_header|id|error_text|"
+    r"stunp_(read_header|id|error_text|"
     r"endpoint_(server_new_(with|short_term|open)|users_(new_own|add(_keys)?|remove)|"
     r"client_(new_with|request_with|request_as_with|cancel))|"
     r"ice_checker_(new_with|offer_with|set_peer_with|set_role|set_tie_breaker)|"
-    r"(state_|endpoint_)?(version|release_\w+))")
+    r"(endpoint_)?(version|release_\w+))")
 
 def wanted_attributes(result, name, listed):
     """What a declaration says to compilers: a result that is to be used, pointers with a length by
@@ -229,16 +209,16 @@ def attributes_of_header(text):
 
 def structs_of_rust(text, enums):
     fields = re.compile(r"(\w+): \[?(\w+)((?:; \d+\])?)")
-    structs = re.compile(r"repr\(C\)\][^;{]*?struct (Address|Cursor|Header|Timeouts|Statistics|"
-                         r"Received|Reply|IceCheck|IceReceived|Event|Dropped|ClientOptions|"
+    structs = re.compile(r"repr\(C\)\][^;{]*?struct (Address|Cursor|Header|Received|"
+                         r"Reply|IceCheck|IceReceived|Event|Dropped|ClientOptions|"
                          r"RequestOptions) \{(.*?)\}", re.DOTALL)
-    return {PASSED[name]: [(FIELDS.get((name, field)) or in_c(kind, field, "", enums)[0],
+    return {PASSED[name]: [(FIELDS.get((name, field)) or in_c(kind, field, enums)[0],
                             field + size) for field, kind, size in fields.findall(body)]
             for name, body in structs.findall(text)}
 
 def structs_of_header(text):
-    structs = re.compile(r"typedef struct \{([^}]*)\} (stunp_(?:address|cursor|header|timeouts|"
-                         r"statistics|received|reply|ice_check|ice_received|event|dropped|"
+    structs = re.compile(r"typedef struct \{([^}]*)\} (stunp_(?:address|cursor|header|received|"
+                         r"reply|ice_check|ice_received|event|dropped|"
                          r"client_options));")
     return {name: [(kind, field.replace("[", "; "))
                    for kind, fields in re.findall(r"(\w+) ([^;]+);", body)
@@ -446,20 +426,20 @@ def compare_archives():
     """What threads may share (the headers): none of the archives has data of its own that
     changes."""
     archives = [Path(f"crates/{crate}/out/lib{crate}.a") 
-                for crate in ("stun_c", "stun_state", "stun_c_endpoint")]
+                for crate in ("stun_c", "stun_c_endpoint")]
     there = [archive for archive in archives if archive.exists() and shutil.which("readelf")]
     compare("written data", {str(archive): written_sections(archive) for archive in there},
             {str(archive): [] for archive in there})
 
 def border():
     """The sources with calls or structs for C."""
-    files = [path for crate in ("stun_c", "stun_state", "stun_handles", "stun_c_endpoint")
+    files = [path for crate in ("stun_c", "stun_handles", "stun_c_endpoint")
              for path in sorted(Path(f"crates/{crate}/src").rglob("*.rt"))]
     return [str(path) for path in files
             if re.search(r"#\[(?:unsafe\()?(?:no_mangle|repr\(C\))", path.read_text("utf-8"))]
 
 def main():
-    header = read("include/stunp.h", "include/stunp_state.h", "include/stunp_endpoint.h")
+    header = read("include/stunp.h", "include/stunp_endpoint.h")
     crates = read(*border())
     enums = enums_of_header(header)
     # An enum that is passed has the size of a u32: no number is below zero or above an int.
@@ -472,7 +452,7 @@ def main():
     declared = {name: kinds for name, kinds in functions_of_header(header).items()
                 if name.startswith("stunp_") and name not in EXPORTED_ONLY}
     before = r'#\[(?:unsafe\(no_mangle\)|no_mangle)\]\s*(?:pub |unsafe )?extern "C" '
-    defined = with_constants(crates, functions_of_rust(crates, before, enums))
+    defined = functions_of_rust(crates, before, enums)
     compare("declaration", declared, defined)
     compare("definition", defined, declared)
     compare("attributes", *attributes_of_header(header))

@@ -22,7 +22,7 @@ LEFT_OUT = 77
 # How a line says what this machine lacks. A number of calls that were left out says another thing.
 SAID, LACKS = re.compile(r"^left out,|(?:[:;,]|\bis|\bare) left out\b"), "this machine lacks: "
 ARCHIVE = "target/c/libstunp.a"
-OVER = f'STUN_C="$PWD/{ARCHIVE}" STUN_STATE="$PWD/{ARCHIVE}"'
+OVER = f'STUN_C="$PWD/{ARCHIVE}" STUN_ENDPOINT="$PWD/{ARCHIVE}"'
 
 # The merge tier. What needs no proof:
 CHECKS = {

@@ -31,7 +31,7 @@ import parts
 TOP = os.path.normpath(os.path.join(os.path.dirname(os.path.abspath(__file__)), ".."))
 LOG = os.path.join(TOP, "target/merge/proofs.log")
 EXPORTED = os.path.join(TOP, "target/export")
-ARCHIVES = ("stun_c", "stun_state", "stun_c_endpoint")
+ARCHIVES = ("stun_c", "stun_c_endpoint")
 PROGRAMS = ("stun_tool", "stun_inspect")
 
 # What must be built before.
@@ -122,12 +122,12 @@ def write(target, text):
 def install(folder):
     """The prefix, by the rules of include/Makefile. Its files for pkg-config name its place. What
     is installed is told: the environment may name other archives."""
-    messages, state, endpoint = ("../" + path for path in BUILT_ARCHIVES)
+    messages, endpoint = ("../" + path for path in BUILT_ARCHIVES)
     programs = " ".join("../" + path for path in BUILT_PROGRAMS)
     with tempfile.TemporaryDirectory() as scratch:
         run("make", "-s", "-C", os.path.join(TOP, "include"), "install", "TO=" + folder,
             "NAMED=$${pcfiledir}/../..", "OUT=" + scratch, "MESSAGES=" + messages,
-            "STATE=" + state, "ENDPOINT=" + endpoint, "PROGRAMS=" + programs, "KIND=proved",
+            "ENDPOINT=" + endpoint, "PROGRAMS=" + programs, "KIND=proved",
             env={key: word for key, word in os.environ.items() if key[:4] != "MAKE"})
 
 

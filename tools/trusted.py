@@ -29,7 +29,7 @@ ENDPOINTS = {
     "The servers: `endpoint::Server`, `ShortTermServer`, `OpenServer`": ("stun_endpoint",),
     "The client: `endpoint::Client`": ("stun_client_calls",),
     "The ICE agent: `endpoint::ice`": ("stun_ice",),
-    "The calls for C": ("stun_c", "stun_state", "stun_c_endpoint"),
+    "The calls for C": ("stun_c", "stun_c_endpoint"),
 }
 OF_LAWS = "The laws of items 1 to 3 of README"
 # The laws that state these items, by their crates: the server, client and server, and time.

@@ -23,26 +23,20 @@ TEXTS = (
 NUMBERS = (
     ("include/stunp.h", r"#define STUNP_VERSION (\d+)"),
     ("crates/stun_c/src/lib.rt", r"fn stunp_version\(\) -> i64\n[^{]*\{[^}]*\}\n\{\n    (\d+)\n"),
-    ("crates/stun_state/src/calls/release.rt", r"const VERSION: i64 = (\d+);"),
     ("crates/stun_c_endpoint/src/release.rt", r"const VERSION: i64 = (\d+);"),
 )
 # The same, where its first two parts are in the names of calls, each time that they are named.
-RELEASE, STATE_RELEASE = r"\bstunp_release_(\d\w*)", r"\bstunp_state_release_(\d\w*)"
+RELEASE = r"\bstunp_release_(\d\w*)"
 ENDPOINT_RELEASE = r"\bstunp_endpoint_release_(\d\w*)"
 NAMES = (
     ("include/stunp.h", RELEASE),
-    ("include/stunp_state.h", RELEASE),
-    ("include/stunp_state.h", STATE_RELEASE),
     ("include/stunp_endpoint.h", RELEASE),
     ("include/stunp_endpoint.h", ENDPOINT_RELEASE),
     ("crates/stun_c/src/lib.rt", RELEASE),
-    ("crates/stun_state/src/calls/release.rt", STATE_RELEASE),
     ("crates/stun_c_endpoint/src/release.rt", ENDPOINT_RELEASE),
     ("tests/refused.sh", r"-Dstunp_release_(\d\w*)="),
-    ("tests/refused.sh", r"-Dstunp_state_release_(\d\w*)="),
     ("tests/refused.sh", r"-Dstunp_endpoint_release_(\d\w*)="),
     ("tests/c/arguments.c", RELEASE),
-    ("tests/c/handles.c", STATE_RELEASE),
     ("tests/c/endpoint.c", ENDPOINT_RELEASE),
     ("docs/PROVED.md", RELEASE),
 )

@@ -1,14 +1,12 @@
-"""This library's messages and parts as a subject, through its headers for C: stunp.h, and of
-stunp_state.h the client's long-term authenticator and the agent. endpoint.py has the endpoints.
-
-What the headers do not have is left out."""
+"""This library's messages as a subject, through its header for C, stunp.h. endpoint.py has the
+endpoints. What the header does not have is left out."""
 
 import ctypes
 import struct
-from ctypes import byref, c_size_t, c_uint16, c_uint32, c_uint64, c_uint8, c_void_p
+from ctypes import byref, c_size_t, c_uint16, c_uint32, c_uint64, c_uint8
 
-from subjects.library import (ALGORITHMS, CLASSES, FEATURES, LIBRARY, NAMES, Address, Refused,
-                              address, address_text, ask, buffer, call, changed, octets_of, plain)
+from subjects.library import (ALGORITHMS, CLASSES, NAMES, Refused, address_text, ask, buffer, call,
+                              changed, octets_of, plain)
 
 FINGERPRINTS = ("none", "valid", "invalid", "invalid")
 MISSING, NO_INTEGRITY = -15, -4
@@ -19,26 +17,11 @@ NUMBERS = {0x24: (4, 0), 0x0D: (4, 0), 0x8029: (8, 0), 0x802A: (8, 0), 0x0C: (4,
 EVEN_PORT = 0x18
 # Values that the headers have no call for: they are left out.
 WITHOUT_CALLS = (0x08, 0x1C, 0x1D, 0x8002, 0x1E, 0x17, 0x8000)
-HOUR = 3600 * 10**9
-
-
-class Handle(ctypes.Structure):
-    """A handle of stunp_state.h."""
-    _fields_ = [("kind", c_uint32), ("state", c_void_p)]
-
-
-class Timeouts(ctypes.Structure):
-    _fields_ = [("size", c_size_t), ("initial", c_uint64), ("longest", c_uint64),
-                ("last", c_uint64), ("transmissions", c_uint32)]
 
 
 def types_of(word):
     numbers = [] if word == "-" else [int(one, 16) for one in word.split(",")]
     return (c_uint16 * len(numbers))(*numbers)
-
-
-def id_of(number):
-    return int(number).to_bytes(12, "big")
 
 
 class Reading:
@@ -180,97 +163,5 @@ class Writing:
         return bytes(out[:length]) if length else "none"
 
 
-class Client:
-    """stunp_client: the client's half of the long-term credentials, for messages of its caller."""
-
-    @call
-    def client_new(self):
-        LIBRARY.stunp_client_clear(byref(self.client))
-        ask("client_new", byref(self.client))
-
-    @call
-    def client_user(self, name, password):
-        ask("client_set_credentials", byref(self.client), plain(name), plain(password))
-
-    @call
-    def client_algorithms(self, names):
-        ask("client_set_algorithms", byref(self.client),
-            c_uint32(sum(ALGORITHMS[one] for one in names.split(","))))
-
-    @call
-    def client_hashes(self, word):
-        ask("client_set_anonymous_username", byref(self.client), c_uint32(FEATURES[word]))
-
-    @call
-    def client_signs(self, message):
-        message, out = plain(message), buffer()
-        out[:len(message)] = message
-        length = ask("client_sign", byref(self.client), out, c_size_t(len(message)))
-        return bytes(out[:length])
-
-    @call
-    def client_hears(self, message):
-        came = ask("client_validate", byref(self.client), plain(message))
-        return NAMES.get(came, "resend" if 3 <= came <= 5 else "none")
-
-
-class Transactions:
-    @call
-    def agent_new(self, transport):
-        LIBRARY.stunp_agent_clear(byref(self.agent))
-        ask("agent_new", byref(self.agent), c_uint32(transport == "tcp"),
-            address("10.0.0.1:12345"))
-
-    def made(self):
-        if self.agent.kind == 0:
-            self.agent_new("udp")
-        return byref(self.agent)
-
-    @call
-    def agent_asks(self, now, peer, message):
-        ask("agent_send_request", self.made(), plain(message), address(peer), c_uint64(int(now)))
-
-    @call
-    def agent_takes(self, now, peer, message):
-        came = ask("agent_handle", self.made(), plain(message), address(peer), c_uint64(int(now)))
-        return "yes" if came else "no"
-
-    @call
-    def agent_transmit(self, now):
-        out, to = buffer(), Address()
-        length = ask("agent_poll_transmit", self.made(), c_uint64(int(now)), out, byref(to))
-        return str(int.from_bytes(bytes(out[8:20]), "big")) if length else "none"
-
-    @call
-    def agent_poll(self, now):
-        until, identity = c_uint64(), (c_uint8 * 12)()
-        came = ask("agent_poll", self.made(), c_uint64(int(now)), byref(until), identity)
-        if came:
-            kind = "timed out" if came == 1 else "cancelled"
-            return f"{kind} {int.from_bytes(bytes(identity), 'big')}"
-        return "idle" if until.value == int(now) + HOUR else f"wait {until.value}"
-
-    def agent_cancel(self, identity):
-        return self.about("agent_cancel", identity)
-
-    def agent_cancel_retransmissions(self, identity):
-        return self.about("agent_cancel_retransmissions", identity)
-
-    def about(self, name, identity, *words):
-        try:
-            return "done" if ask(name, self.made(), id_of(identity), *words) else "none"
-        except Refused:
-            return "none"
-
-    def agent_configure(self, identity, initial, count, last, longest):
-        waits = Timeouts(ctypes.sizeof(Timeouts), int(initial), int(longest), int(last), int(count))
-        return self.about("agent_configure", identity, byref(waits))
-
-
-class Subject(Reading, Writing, Client, Transactions):
-    def __init__(self):
-        self.client, self.agent = Handle(), Handle()
-
-    def __del__(self):
-        LIBRARY.stunp_client_clear(byref(self.client))
-        LIBRARY.stunp_agent_clear(byref(self.agent))
+class Subject(Reading, Writing):
+    pass

@@ -1,11 +1,9 @@
-/* Implements exchange.h with the library. */
+/* Implements exchange.h. */
 #define _GNU_SOURCE
 #include "exchange.h"
 #include <netdb.h>
 #include <stdio.h>
 #include <string.h>
-
-enum { MOST_AT_ONCE = 16 };
 
 bool find_remote(const char *host, const char *port, struct remote *remote) {
     struct addrinfo wanted = {.ai_socktype = SOCK_DGRAM, .ai_flags = AI_NUMERICHOST}, *found;
@@ -29,38 +27,8 @@ int open_at(const char *host, stunp_address *own) {
     return fd;
 }
 
-int64_t tell(const struct exchange *exchange, const stunp_writer *message, const struct peer *to) {
-    int64_t written = stunp_written(message);
-    if (written == 0) send_to(exchange->socket, message->bytes, message->length, to);
-    return written;
-}
-
-int64_t ask_remote(struct exchange *exchange, const stunp_writer *request,
-                   const struct remote *of) {
-    int64_t kept = stunp_written(request);
-    if (kept == 0)
-        kept = stunp_agent_send_request(&exchange->agent, request->bytes, request->length, &of->at,
-                                        moment());
-    return kept < 0 ? kept : tell(exchange, request, &of->peer);
-}
-
-/* Returns the peer of the remote with this address. The agent returns only the address, without the
- * scope of a link-local address. */
-static const struct peer *peer_of(const struct exchange *exchange, const stunp_address *to) {
+const struct peer *peer_of(const struct exchange *exchange, const stunp_address *to) {
     int i = 0;
     while (i < exchange->remotes_number - 1 && !is_same(&exchange->remotes[i].at, to)) i++;
     return &exchange->remotes[i].peer;
-}
-
-void send_again(struct exchange *exchange, uint64_t now) {
-    uint8_t bytes[MOST_BYTES];
-    stunp_address to;
-    for (int sent = 0; sent < MOST_AT_ONCE; sent++) {
-        int64_t due =
-            stunp_agent_poll_transmit(&exchange->agent, now, bytes, sizeof bytes, &to);
-        if (due <= 0) return;
-        stunp_writer again = stunp_write_on(due, bytes, sizeof bytes);
-        tell(exchange, &again, peer_of(exchange, &to));
-        exchange->repeated++;
-    }
 }

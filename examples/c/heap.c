@@ -5,7 +5,7 @@
  * Each count is changed atomically, so several threads may use handles at the same time, each
  * thread its own. */
 #include "heap.h"
-#include "stunp_state.h"
+#include "stunp_endpoint.h"
 #include <stdint.h>
 #include <stdlib.h>
 #include <string.h>

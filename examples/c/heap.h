@@ -9,7 +9,7 @@
 extern "C" {
 #endif
 
-/* stunp_state.h declares the three functions. An allocation fails if malloc fails, if it exceeds
+/* stunp_endpoint.h declares the three functions. An allocation fails if malloc fails, if it exceeds
  * the limit, if its alignment is wider than that of malloc, or if you requested this with
  * stunp_heap_refuse. The call of the library then fails with STUNP_OUT_OF_MEMORY. */
 

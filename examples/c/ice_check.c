@@ -21,9 +21,8 @@
  * in SECONDS s, N valid, N failed, N requests sent again`. The status is 0; 1, with the reason on
  * standard error; or 2 for wrong arguments.
  *
- * stunp_ice_checker (stunp_endpoint.h) writes and judges the checks, and stunp_agent
- * (stunp_state.h) sends them again. This file has the parts that they leave to their caller:
- * sockets, pairs and pacing. */
+ * stunp_ice_checks (stunp_endpoint.h) writes, retransmits and judges the checks. This file has the
+ * parts that it leaves to its caller: sockets, pairs and pacing. */
 #define _GNU_SOURCE
 #include "exchange.h"
 #include "heap.h"
@@ -61,7 +60,7 @@ struct pair {
 };
 
 static stunp_ice_checker checker;
-static struct exchange ours[MOST_CANDIDATES]; /* a socket and an agent for each candidate */
+static struct exchange ours[MOST_CANDIDATES]; /* a socket and checks for each candidate */
 static struct remote theirs[MOST_REMOTES];
 static int ours_number, theirs_number;
 
@@ -117,8 +116,7 @@ static void fail_pair(struct pair *pair, const stunp_ice_check *check, const cha
 static void trigger(struct pair *pair) {
     if (pair->state == VALID || pair->is_queued) return;
     if (pair->state == CHECKING)
-        stunp_agent_cancel_retransmissions(&ours[our_of(pair)].agent, current(pair)->id,
-                                           STUNP_ID_LENGTH);
+        stunp_ice_checks_stop_sending(&ours[our_of(pair)].checks, current(pair)->id);
     set_state(pair, WAITING);
     pair->is_queued = true;
     queue[(first_queued + queued++) % MOST_PAIRS] = pair;
@@ -182,25 +180,25 @@ static struct pair *to_check(void) {
 /* ---- Our checks, and what arrives */
 
 static int64_t send_check(struct pair *pair) {
-    uint8_t bytes[STUNP_ICE_CHECK_MAX], id[STUNP_ID_LENGTH];
-    const struct remote *to = &theirs[their_of(pair)];
-    uint32_t priority = PEER_REFLEXIVE - (uint32_t)our_of(pair) * LOCAL_PREFERENCE;
-    bool nominates = pair->state == VALID;
-    fill_randomly(id, sizeof id);
+    struct exchange *our = &ours[our_of(pair)];
+    stunp_ice_new_check check = STUNP_INIT(stunp_ice_new_check);
+    check.from = our->own, check.to = theirs[their_of(pair)].at;
+    check.priority = PEER_REFLEXIVE - (uint32_t)our_of(pair) * LOCAL_PREFERENCE;
+    check.nominates = pair->state == VALID;
+    fill_randomly(check.id, sizeof check.id);
     set_state(pair, CHECKING);
     pair->sent++;
-    int64_t length = stunp_ice_checker_check(&checker, id, &to->at, priority, nominates, bytes,
-                                             sizeof bytes, current(pair));
-    if (length < 0) return length;
-    stunp_writer check = stunp_write_on(length, bytes, sizeof bytes);
-    return ask_remote(&ours[our_of(pair)], &check, to);
+    int64_t started = stunp_ice_checks_start(&our->checks, &check, moment());
+    if (started < 0) return started;
+    *current(pair) = *stunp_ice_checks_find(&our->checks, check.id);
+    our->started++;
+    return 0;
 }
 
 /* Handles the end of a check of ours (section 7.2.5). */
 static void end_check(struct pair *pair, const stunp_ice_check *check,
                       const stunp_ice_received *ended) {
     uint64_t tie_breaker;
-    stunp_agent_cancel(&ours[our_of(pair)].agent, check->id, STUNP_ID_LENGTH);
     switch (ended->outcome) {
     case STUNP_ICE_VALID:
         pair->seen = ended->mapped;
@@ -241,34 +239,41 @@ static void take(int our, const struct datagram *got) {
     static uint8_t out[STUNP_ANSWER_MAX];
     static stunp_ice_received received = STUNP_INIT(stunp_ice_received);
     stunp_ice_check *check = NULL;
+    stunp_ice_ended ended;
     struct pair *pair = NULL;
     if (stunp_is_stun(got->bytes, got->length) == 0) {
         take_data(our, got);
         return;
     }
-    if (got->length >= STUNP_HEADER_LENGTH) pair = checked_by(our, got->bytes + 8, &check);
-    int64_t kind = stunp_ice_checker_receive(&checker, got->bytes, got->length, &got->from, check,
-                                             out, sizeof out, &received);
+    int64_t kind = stunp_ice_checks_receive(&ours[our].checks, got->bytes, got->length,
+                                            &ours[our].own, &got->from, moment(), out, sizeof out,
+                                            &received, &ended);
     if (kind == STUNP_ANSWER) {
         send_to(ours[our].socket, out, received.length, &got->peer);
         if (received.outcome == STUNP_ICE_ACCEPTED) read_check(our, got, &received);
     }
-    if (kind == STUNP_IS_RESPONSE) end_check(pair, check, &received);
+    if (kind == STUNP_IS_RESPONSE) pair = checked_by(our, ended.check.id, &check);
+    if (pair != NULL) end_check(pair, check, &received);
 }
 
 /* Sends checks again that are due, and ends those that were not answered. Returns the time at which
  * there is more to do, or `until`. */
 static uint64_t go_on(uint64_t now, uint64_t until) {
-    uint8_t id[STUNP_ID_LENGTH];
     for (int our = 0; our < ours_number; our++) {
-        uint64_t next = until;
-        send_again(&ours[our], now);
-        while (stunp_agent_poll(&ours[our].agent, now, &next, id, sizeof id) > 0) {
+        struct exchange *by = &ours[our];
+        stunp_ice_event event;
+        stunp_event_kind kind;
+        while ((kind = stunp_ice_checks_poll(&by->checks, now, &event)) != STUNP_WAIT) {
             stunp_ice_check *check;
-            struct pair *pair = checked_by(our, id, &check);
-            if (pair != NULL) fail_pair(pair, check, "no answer");
+            struct pair *pair = checked_by(our, event.check.id, &check);
+            if (kind == STUNP_TRANSMIT) {
+                send_to(by->socket, event.bytes, event.length, peer_of(by, &event.to));
+                by->sent++;
+            } else if (pair != NULL) {
+                fail_pair(pair, check, "no answer");
+            }
         }
-        if (next < until) until = next;
+        until = stunp_ice_checks_until(&by->checks, until);
     }
     return until;
 }
@@ -314,7 +319,8 @@ static void send_data(const struct pair *pair, const char *ufrag) {
 
 static void print_checked(uint64_t nanoseconds) {
     unsigned long repeated = 0;
-    for (int our = 0; our < ours_number; our++) repeated += ours[our].repeated;
+    for (int our = 0; our < ours_number; our++)
+        if (ours[our].sent > ours[our].started) repeated += ours[our].sent - ours[our].started;
     printf("checked %d pairs in %.3f s, %d valid, %d failed, %lu requests sent again\n",
            pairs_number, (double)nanoseconds / SECOND, valid_pairs,
            pairs_number - valid_pairs - open_pairs, repeated);
@@ -362,16 +368,15 @@ static void fill_text(char *text, size_t length) {
     text[length] = 0;
 }
 
-/* Opens a socket and creates an agent for each of our candidates, and prints our line. */
+/* Opens a socket and the checks for each of our candidates, and prints our line. */
 static bool open_ours(const char *host, const stunp_ice_settings *settings) {
     printf("%s ", host);
     for (int i = 0; i < ours_number; i++) {
-        stunp_address own;
-        ours[i] = (struct exchange){.socket = open_at(host, &own), .remotes = theirs};
-        if (ours[i].socket < 0) return false;
-        int64_t begun = stunp_agent_new(&ours[i].agent, STUNP_UDP, &own);
-        if (begun < 0) return fails(stunp_strerror(begun));
-        printf("%s%u", i == 0 ? "" : ",", (unsigned)own.port);
+        struct exchange *our = &ours[i];
+        our->socket = open_at(host, &our->own), our->remotes = theirs;
+        if (our->socket < 0) return false;
+        our->checks = stunp_ice_checks_on(&checker, our->stored, MOST_OUTSTANDING);
+        printf("%s%u", i == 0 ? "" : ",", (unsigned)our->own.port);
     }
     printf(" %s %s\n", settings->name, settings->password);
     return true;
@@ -399,10 +404,8 @@ static bool read_theirs(stunp_ice_settings *settings) {
 
 static void close_ours(void) {
     stunp_ice_checker_free(&checker);
-    for (int i = 0; i < ours_number; i++) {
-        stunp_agent_free(&ours[i].agent);
+    for (int i = 0; i < ours_number; i++)
         if (ours[i].socket > 0) close(ours[i].socket);
-    }
 }
 
 int main(int count, char **words) {

@@ -3,4 +3,3 @@
 #define STUNP_INLINE_CALLS 1
 #define STUNP_INLINED
 #include "stunp_endpoint.h"
-#include "stunp_state.h"

@@ -13,7 +13,7 @@ static const stunp_address from = {{192, 0, 2, 1}, 3478, 4}, nowhere = {{0}, 1, 
 struct realm {
     stunp_endpoint_server server;
     stunp_endpoint_users users;
-    stunp_client client;
+    struct user client;
 };
 
 static stunp_endpoint_server_settings settings_of(const uint16_t *understood, size_t count) {
@@ -30,17 +30,12 @@ static struct realm realm_of(const stunp_endpoint_server_settings *settings) {
     want("server", stunp_endpoint_server_new(&realm.server, settings), 0);
     want("users", stunp_endpoint_users_new(&realm.users, &realm.server), 0);
     want("add", stunp_endpoint_users_add(&realm.users, "name", 4, "password", 8), 0);
-    want("client", stunp_client_new(&realm.client), 0);
-    want("algorithms", stunp_client_set_algorithms(&realm.client, STUNP_SHA1 | STUNP_SHA256), 0);
-    want("credentials",
-         stunp_client_set_credentials(&realm.client, "name", 4, "password", 8), 0);
     return realm;
 }
 
 static void free_realm(struct realm *realm) {
     stunp_endpoint_server_free(&realm->server);
     stunp_endpoint_users_free(&realm->users);
-    stunp_client_free(&realm->client);
 }
 
 static int64_t judge(const struct realm *realm, const struct message *message, uint64_t now,
@@ -56,7 +51,7 @@ static struct message request(struct realm *realm, uint32_t number, uint32_t typ
     stunp_writer writer = stunp_write_on((int64_t)message.length, message.bytes,
                                          sizeof message.bytes);
     if (type != 0) stunp_write_number(&writer, type, 600, 4);
-    stunp_write_client_sign(&writer, &realm->client);
+    write_signature(&writer, &realm->client);
     if (has_fingerprint) stunp_write_fingerprint(&writer);
     want("written", stunp_written(&writer), 0);
     message.length = writer.length;
@@ -79,7 +74,7 @@ static void take_challenge(struct realm *realm, uint64_t now) {
     struct message plain = message_of(STUNP_REQUEST, 1);
     want("unsigned", judge(realm, &plain, now, sizeof out, &received), STUNP_ANSWER);
     want("code", received.code, 401);
-    want("a 401", stunp_client_validate(&realm->client, out, received.length), STUNP_RESEND);
+    want("a 401", judge_response(&realm->client, out, received.length), RESEND);
 }
 
 static void settings_in_order(void) {
@@ -592,7 +587,7 @@ static void replies(uint32_t algorithms, bool has_fingerprint) {
         want("header", stunp_read_header(out, (size_t)length, &header), 0);
         want("class", header.message_class, is_error ? STUNP_ERROR : STUNP_SUCCESS);
         want_same("id", header.id, message.bytes + 8, STUNP_ID_LENGTH);
-        want("signed", stunp_client_validate(&realm.client, out, (size_t)length), wanted);
+        want("signed", judge_response(&realm.client, out, (size_t)length), wanted);
         want("FINGERPRINT", stunp_check_fingerprint(out, (size_t)length),
              has_fingerprint ? STUNP_RIGHT_FINGERPRINT : STUNP_NO_FINGERPRINT);
     }
@@ -616,14 +611,14 @@ static void whole_server(void) {
     struct message message = request(&realm, 2, 0, true);
     want("Binding", judge(&realm, &message, NOW, sizeof out, &received), STUNP_ANSWER);
     want("success", received.code, 0);
-    want("signed", stunp_client_validate(&realm.client, out, received.length), STUNP_SHA256);
+    want("signed", judge_response(&realm.client, out, received.length), STUNP_SHA256);
     want("the address", stunp_xor_mapped_address(out, received.length, octets, 16, &port), 4);
     want_same("the address", octets, from.octets, 4);
     want("FINGERPRINT", stunp_has_right_fingerprint(out, received.length), true);
     message = request(&realm, 3, STUNP_LIFETIME, false);
     want("unknown", judge(&realm, &message, NOW, sizeof out, &received), STUNP_ANSWER);
     want("420", received.code, 420);
-    want("signed", stunp_client_validate(&realm.client, out, received.length), STUNP_SHA256);
+    want("signed", judge_response(&realm.client, out, received.length), STUNP_SHA256);
     want("types", stunp_find_types(out, received.length, STUNP_UNKNOWN_ATTRIBUTES, types, 4), 1);
     want("type", types[0], STUNP_LIFETIME);
     want("stale", judge(&realm, &message, NOW + 7200, sizeof out, &received), STUNP_ANSWER);
@@ -678,12 +673,11 @@ static void look_ups(bool is_hashed) {
     struct realm realm = realm_of(&settings), none = realm;
     stunp_received received = STUNP_INIT(stunp_received), before = received;
     uint8_t sha1[16], sha256[32], hash[STUNP_USERHASH_LENGTH];
-    want("hashed", stunp_client_set_anonymous_username(
-         &realm.client, is_hashed ? STUNP_REQUIRED : STUNP_DISABLED), 0);
+    realm.client.sends_hash = is_hashed;
     struct message plain = message_of(STUNP_REQUEST, 1);
     want("unsigned", identify(&realm, &plain, NOW, sizeof out, &received), STUNP_ANSWER);
     want("401", received.code, 401);
-    want("a 401", stunp_client_validate(&realm.client, out, received.length), STUNP_RESEND);
+    want("a 401", judge_response(&realm.client, out, received.length), RESEND);
     struct message message = request(&realm, 2, 0, true);
     memset(out, 0xaa, sizeof out);
     want("waits", identify(&realm, &message, NOW, 0, &received), STUNP_LOOKUP);
@@ -714,7 +708,7 @@ static void look_ups(bool is_hashed) {
     want("401", received.code, 401);
     want("the user", resume(&realm, &good, &message, &received), STUNP_ANSWER);
     want("success", received.code, 0);
-    want("signed", stunp_client_validate(&realm.client, out, received.length), STUNP_SHA256);
+    want("signed", judge_response(&realm.client, out, received.length), STUNP_SHA256);
     want("key", stunp_long_term_key(STUNP_SHA1, "name", 4, "realm", 5, "password", 8, sha1, 16), 16);
     want("key", stunp_long_term_key(STUNP_SHA256, "name", 4, "realm", 5, "password", 8, sha256, 32),
          32);
@@ -1051,7 +1045,7 @@ static void short_term_server(stunp_algorithm algorithm) {
     request = signed_by(STUNP_REQUEST, 6, "name", algorithm, "another");
     want("removed", judge(&realm, &request, 0, sizeof out, &received), STUNP_ANSWER);
     want("code", received.code, 401);
-    other.users = of_other, realm.client = (stunp_client){0};
+    other.users = of_other;
     free_realm(&other);
     free_realm(&realm);
 }
@@ -1060,27 +1054,24 @@ static void short_term_server(stunp_algorithm algorithm) {
 static void worked(void) {
     stunp_endpoint_server server = {0};
     stunp_endpoint_users users = {0};
-    stunp_client client = {0};
+    struct user client = {.name = "alice", .password = "wonderland", .only_sha1 = true};
     want("set up", set_up(&server, &users, secret), 0);
-    want("client", stunp_client_new(&client), 0);
-    want("credentials", stunp_client_set_credentials(&client, "alice", 5, "wonderland", 10), 0);
     for (uint32_t i = 0; i < 3; i++) {
         const uint8_t id[STUNP_ID_LENGTH] = {(uint8_t)i};
         uint8_t bytes[512];
         stunp_writer request = stunp_write(STUNP_REQUEST, i == 2 ? STUNP_ALLOCATE : STUNP_BINDING,
                                            id, bytes, sizeof bytes);
-        stunp_write_client_sign(&request, &client);
+        write_signature(&request, &client);
         size_t length = serve(&server, &users, bytes, request.length, &from, NOW, out, sizeof out);
         if (i == 1)
             want("looked up", (int64_t)serve_looked_up(&server, find_alice, bytes, request.length,
                  &from, NOW, out, sizeof out), (int64_t)length);
-        int64_t wanted = i == 0 ? STUNP_RESEND : STUNP_SHA1;
-        want("judged", stunp_client_validate(&client, out, length), wanted);
+        int64_t wanted = i == 0 ? RESEND : STUNP_SHA1;
+        want("judged", judge_response(&client, out, length), wanted);
         const int64_t codes[] = {401, STUNP_MISSING_ATTRIBUTE, 400};
         want("code", stunp_error_code(out, length), codes[i]);
     }
     want("nothing to send", (int64_t)serve(&server, &users, out, 1, &from, NOW, out, sizeof out), 0);
-    stunp_client_free(&client);
     stunp_endpoint_users_free(&users);
     stunp_endpoint_server_free(&server);
 }

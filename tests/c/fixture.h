@@ -1,10 +1,9 @@
-/* What the tests of the calls with state share: addresses, messages, and a server and a client that
- * talk to each other. */
+/* What the tests of endpoints share: addresses, messages, and a user who signs requests. */
 #ifndef STUN_FIXTURE_H
 #define STUN_FIXTURE_H
 
 #include "heap.h"
-#include "stunp_state.h"
+#include "stunp_endpoint.h"
 #include <stdio.h>
 #include <stdlib.h>
 #include <string.h>
@@ -13,8 +12,6 @@ static const uint64_t SECOND = 1000000000;
 
 /* A message and its length. */
 struct message { uint8_t bytes[2048]; size_t length; };
-
-static const uint32_t some_words[16] = {3, 1, 4, 1, 5, 9, 2, 6, 5, 3, 5, 8, 9, 7, 9, 3};
 
 /* Ends the program if an answer is not the wanted one. */
 static inline void want(const char *what, int64_t answer, int64_t wanted) {
@@ -63,70 +60,139 @@ static inline void add_error(struct message *message, uint32_t code) {
     message->length = (size_t)length;
 }
 
-/* A server with the user `name` and the password `password`, and a client of that user. Both use
- * the same algorithms: HMAC-SHA1, or both. */
-struct pair { stunp_server server; stunp_client client; };
+/* A user of a server, as a client stores it: what the last 401 or 438 said. */
+struct user {
+    const char *name, *password; /* `name` and `password` if null */
+    bool is_challenged, sends_hash, only_sha1;
+    char realm[64], nonce[128];
+    size_t realm_length, nonce_length, offer_length;
+    uint8_t offer[64];
+};
+
+enum { RESEND = 100 };
+
+/* Copies the value of an attribute, and returns its length, or 0 if there is none. */
+static inline size_t copy_of(const uint8_t *bytes, size_t length, uint32_t type, void *out) {
+    size_t value_length = 0;
+    const uint8_t *value = stunp_find_value(bytes, length, type, &value_length);
+    if (value != NULL) memcpy(out, value, value_length);
+    return value == NULL ? 0 : value_length;
+}
+
+static inline const char *name_of(const struct user *user) {
+    return user->name == NULL ? "name" : user->name;
+}
+
+/* The key of the user, and its algorithm: HMAC-SHA256 if the server offers algorithms. */
+static inline stunp_algorithm key_of(const struct user *user, uint8_t *key, size_t *length) {
+    const char *password = user->password == NULL ? "password" : user->password;
+    stunp_algorithm by =
+        user->offer_length == 0 || user->only_sha1 ? STUNP_SHA1 : STUNP_SHA256;
+    *length = (size_t)stunp_long_term_key(by, name_of(user), strlen(name_of(user)), user->realm,
+                                          user->realm_length, password, strlen(password), key,
+                                          STUNP_SHA256_KEY_LENGTH);
+    return by;
+}
+
+/* Signs a message of the user, if the user was challenged. */
+static inline void write_signature(stunp_writer *writer, const struct user *user) {
+    uint8_t key[STUNP_SHA256_KEY_LENGTH], hash[STUNP_USERHASH_LENGTH];
+    size_t length;
+    if (!user->is_challenged) return;
+    stunp_algorithm by = key_of(user, key, &length);
+    want("a hash", stunp_userhash(name_of(user), strlen(name_of(user)), user->realm,
+                                  user->realm_length, hash, sizeof hash), STUNP_USERHASH_LENGTH);
+    if (user->sends_hash) stunp_write_bytes(writer, STUNP_USERHASH, hash, sizeof hash);
+    else stunp_write_text(writer, STUNP_USERNAME, name_of(user));
+    stunp_write_bytes(writer, STUNP_REALM, user->realm, user->realm_length);
+    stunp_write_bytes(writer, STUNP_NONCE, user->nonce, user->nonce_length);
+    if (user->offer_length > 0) {
+        stunp_write_bytes(writer, STUNP_PASSWORD_ALGORITHMS, user->offer, user->offer_length);
+        stunp_write_bytes(writer, STUNP_PASSWORD_ALGORITHM,
+                          by == STUNP_SHA1 ? "\0\1\0\0" : "\0\2\0\0", 4);
+    }
+    stunp_write_integrity(writer, by, key, length);
+}
+
+/* Judges a response: RESEND for a challenge, which the user takes up, and else the algorithm of its
+ * signature or the error of stunp_verify. */
+static inline int64_t judge_response(struct user *user, const uint8_t *bytes, size_t length) {
+    uint8_t key[STUNP_SHA256_KEY_LENGTH];
+    size_t key_length;
+    int64_t code = stunp_error_code(bytes, length);
+    if (code == 401 || code == 438) {
+        user->realm_length = copy_of(bytes, length, STUNP_REALM, user->realm);
+        user->nonce_length = copy_of(bytes, length, STUNP_NONCE, user->nonce);
+        user->offer_length = copy_of(bytes, length, STUNP_PASSWORD_ALGORITHMS, user->offer);
+        user->is_challenged = true;
+        return RESEND;
+    }
+    key_of(user, key, &key_length);
+    return stunp_verify(bytes, length, key, key_length);
+}
+
+/* A server with the user `name` and the password `password`, and this user as a client. */
+struct pair {
+    stunp_endpoint_server server;
+    stunp_endpoint_users users;
+    struct user user;
+};
 
 static inline struct pair pair_of(uint32_t algorithms) {
-    struct pair pair = {{0}, {0}};
-    want("stunp_server_new", stunp_server_new(&pair.server, text("realm"), 5), 0);
-    want("algorithms", stunp_server_set_algorithms(&pair.server, algorithms), 0);
-    want("stunp_server_add_user",
-         stunp_server_add_user(&pair.server, text("name"), 4, text("password"), 8), 0);
-    want("stunp_client_new", stunp_client_new(&pair.client), 0);
-    want("algorithms", stunp_client_set_algorithms(&pair.client, algorithms), 0);
-    want("credentials",
-         stunp_client_set_credentials(&pair.client, text("name"), 4, text("password"), 8), 0);
+    static const uint8_t secret[32] = {7};
+    struct pair pair = {{0}, {0}, {0}};
+    stunp_endpoint_server_settings settings = STUNP_INIT(stunp_endpoint_server_settings);
+    settings.realm = "realm", settings.secret = secret, settings.algorithms = algorithms;
+    want("server", stunp_endpoint_server_new(&pair.server, &settings), 0);
+    want("users", stunp_endpoint_users_new(&pair.users, &pair.server), 0);
+    want("add", stunp_endpoint_users_add(&pair.users, "name", 4, "password", 8), 0);
     return pair;
 }
 
 static inline void free_pair(struct pair *pair) {
-    stunp_server_free(&pair->server);
-    stunp_client_free(&pair->client);
+    stunp_endpoint_users_free(&pair->users);
+    stunp_endpoint_server_free(&pair->server);
 }
 
-/* A request of the client, signed if the client can sign it. */
-static inline struct message request_of(struct pair *pair, uint32_t number) {
+/* A request of the user, signed if the user was challenged. */
+static inline struct message request_of(const struct pair *pair, uint32_t number) {
     struct message request = message_of(STUNP_REQUEST, number);
-    int64_t length = stunp_client_sign(&pair->client, request.bytes, sizeof request.bytes,
-                                       request.length);
-    want("stunp_client_sign", length < STUNP_HEADER_LENGTH ? length : 0, 0);
-    request.length = (size_t)length;
+    stunp_writer writer = stunp_write_on((int64_t)request.length, request.bytes,
+                                         sizeof request.bytes);
+    write_signature(&writer, &pair->user);
+    want("a request", stunp_written(&writer), 0);
+    request.length = writer.length;
     return request;
 }
 
-/* The server's answer to the request with this number: a success, or an error with a code. */
-static inline struct message answer_of(struct pair *pair, uint32_t number, uint32_t code,
-                                       const stunp_address *to) {
-    struct message answer = message_of(code == 0 ? STUNP_SUCCESS : STUNP_ERROR, number);
-    if (code != 0) add_error(&answer, code);
-    int64_t length = stunp_server_sign(&pair->server, answer.bytes, sizeof answer.bytes,
-                                       answer.length, to);
-    want("stunp_server_sign", length < STUNP_HEADER_LENGTH ? length : 0, 0);
-    answer.length = (size_t)length;
-    return answer;
-}
-
-/* The first request is answered by a 401, which challenges the client. */
-static inline void challenge(struct pair *pair, const stunp_address *from, uint64_t now) {
+/* The first request is answered by a 401, which challenges the user. */
+static inline void challenge(struct pair *pair, const stunp_address *from, uint64_t seconds) {
+    uint8_t out[STUNP_ANSWER_MAX];
+    stunp_received received = STUNP_INIT(stunp_received);
     struct message request = message_of(STUNP_REQUEST, 1);
-    int64_t verdict = stunp_server_validate(&pair->server, request.bytes, request.length, from, now,
-                                            some_words);
-    want("an unsigned request", verdict, STUNP_UNAUTHORIZED);
-    struct message answer = answer_of(pair, 1, 401, from);
-    want("a 401", stunp_client_validate(&pair->client, answer.bytes, answer.length), STUNP_RESEND);
+    want("an unsigned request",
+         stunp_endpoint_server_receive(&pair->server, &pair->users, request.bytes, request.length,
+                                       from, seconds, out, sizeof out, &received), STUNP_ANSWER);
+    want("a 401", received.code, 401);
+    want("a challenge", judge_response(&pair->user, out, received.length), RESEND);
 }
 
-/* The next request is validated, and so is its answer. */
-static inline void validate(struct pair *pair, const stunp_address *from, uint64_t now,
-                            int64_t algorithm) {
-    struct message request = request_of(pair, 2);
-    int64_t verdict = stunp_server_validate(&pair->server, request.bytes, request.length, from, now,
-                                            some_words);
-    want("a signed request", verdict, algorithm);
-    struct message answer = answer_of(pair, 2, 0, from);
-    want("a signed answer", stunp_client_validate(&pair->client, answer.bytes, answer.length),
-         algorithm);
+/* The next request is accepted, and its response is signed. */
+static inline struct message validate(struct pair *pair, const stunp_address *from,
+                                      uint64_t seconds, int64_t algorithm) {
+    uint8_t out[STUNP_ANSWER_MAX];
+    stunp_received received = STUNP_INIT(stunp_received);
+    struct message request = request_of(pair, 2), answer = {{0}, 0};
+    want("a signed request",
+         stunp_endpoint_server_receive(&pair->server, &pair->users, request.bytes, request.length,
+                                       from, seconds, out, sizeof out, &received),
+         STUNP_IS_REQUEST);
+    stunp_writer writer = stunp_reply_success(&received.reply, answer.bytes, sizeof answer.bytes);
+    int64_t length = stunp_reply_finish(&received.reply, &writer);
+    want("a response", length, (int64_t)writer.length);
+    answer.length = writer.length;
+    want("a signed response", judge_response(&pair->user, answer.bytes, answer.length), algorithm);
+    return answer;
 }
 
 #endif

@@ -1,7 +1,7 @@
 /* The library without an operating system and without a C library: the functions that a program
  * must then define itself, and a server that judges a request. tests/rust_c.sh links this program
  * with the archive alone. Its only system call ends it with status 0. */
-#include "stunp_state.h"
+#include "stunp_endpoint.h"
 
 /* The memory of the library: blocks of one array. None of them is used again. */
 static uint8_t memory[1 << 16];
@@ -23,7 +23,7 @@ rattle_allocation rattle_realloc(void *at, size_t kept, size_t length, size_t al
 void rattle_dealloc(void *at) { (void)at; }
 
 /* The functions of a C library that the library uses. malloc is not called, since this program
- * defines the three functions of stunp_state.h. */
+ * defines the three functions of stunp_endpoint.h. */
 void *malloc(size_t length) { return (void)length, (void *)0; }
 void *realloc(void *at, size_t length) { return (void)at, (void)length, (void *)0; }
 void free(void *at) { (void)at; }
@@ -74,18 +74,24 @@ static _Noreturn void end(long status) {
 _Noreturn void abort(void) { end(99); }
 
 static long judged(void) {
-    const uint8_t id[STUNP_ID_LENGTH] = {1};
+    static const uint8_t secret[32] = {1}, id[STUNP_ID_LENGTH] = {1};
+    static uint8_t out[512];
     const stunp_address from = {{192, 0, 2, 1}, 3478, 4};
-    const uint32_t words[16] = {1, 2, 3};
     uint8_t request[STUNP_HEADER_LENGTH];
-    stunp_server server = {0};
-    if (stunp_begin(STUNP_REQUEST, STUNP_BINDING, id, sizeof id, request, sizeof request) < 0)
-        return 1;
-    if (stunp_server_new(&server, "realm", 5) != 0) return 2;
-    if (stunp_server_validate(&server, request, sizeof request, &from, 0, words) !=
-        STUNP_UNAUTHORIZED)
+    stunp_writer writer = stunp_write(STUNP_REQUEST, STUNP_BINDING, id, request, sizeof request);
+    stunp_endpoint_server server = {0};
+    stunp_endpoint_users users = {0};
+    stunp_endpoint_server_settings settings = STUNP_INIT(stunp_endpoint_server_settings);
+    settings.realm = "realm", settings.secret = secret;
+    if (stunp_written(&writer) < 0) return 1;
+    if (stunp_endpoint_server_new(&server, &settings) != 0) return 2;
+    if (stunp_endpoint_users_new(&users, &server) != 0) return 2;
+    if (stunp_endpoint_server_receive(&server, &users, request, sizeof request, &from, 0, out,
+                                      sizeof out, NULL)
+        != STUNP_ANSWER)
         return 3;
-    stunp_server_free(&server);
+    stunp_endpoint_users_free(&users);
+    stunp_endpoint_server_free(&server);
     return taken > 0 ? 0 : 4;
 }
 

@@ -9,8 +9,7 @@
 
 enum { MESSAGES = 100000, MUTATIONS = 50000, ID_AT = 8 };
 
-static stunp_agent agent;
-static stunp_address server_address, stranger;
+static stunp_address stranger;
 
 /* A copy that ends where memory does, or one that begins there. */
 static uint8_t *placed(const uint8_t *message, size_t length, bool is_at_end) {
@@ -381,69 +380,52 @@ static long walk(const uint8_t *message, size_t length, int64_t parsed) {
     return count;
 }
 
-/* Passes the message to an agent that sent a request with its id, and to one that did not. */
-static void handle(const uint8_t *message, size_t length, int64_t parsed) {
-    uint8_t id[STUNP_ID_LENGTH];
-    uint64_t until;
-    stunp_address peer;
-    if (parsed < 0) {
-        want("stunp_agent_handle of what is no message",
-             stunp_agent_handle(&agent, message, length, &stranger, 0), parsed);
-        return;
-    }
-    bool is_response = stunp_class(message, length) >= STUNP_SUCCESS;
-    want("unasked", stunp_agent_handle(&agent, message, length, &stranger, 0), !is_response);
-    struct message request = message_of(STUNP_REQUEST, 0);
-    memcpy(request.bytes + ID_AT, message + ID_AT, sizeof id);
-    int64_t sent =
-        stunp_agent_send_request(&agent, request.bytes, request.length, &server_address, 0);
-    want("stunp_agent_send_request", sent, 0);
-    want("from a stranger", stunp_agent_handle(&agent, message, length, &stranger, 0),
-         !is_response);
-    want("still asked", stunp_agent_is_outstanding(&agent, message + ID_AT, sizeof id, &peer), 1);
-    want("from the server", stunp_agent_handle(&agent, message, length, &server_address, 0), 1);
-    want("answered", stunp_agent_is_outstanding(&agent, message + ID_AT, sizeof id, &peer),
-         !is_response);
-    want("cancel", stunp_agent_cancel(&agent, message + ID_AT, sizeof id), !is_response);
-    want("ends", stunp_agent_poll(&agent, 0, &until, id, sizeof id),
-         is_response ? 0 : STUNP_CANCELLED);
-}
-
 /* Passes the message through each call that reads without validating. The answers at both ends of
  * memory are the same. */
 static int64_t read_all(const uint8_t *message, size_t length) {
     int64_t parsed = stunp_parse(placed(message, length, true), length);
     long count = walk(placed(message, length, true), length, parsed);
     if (walk(placed(message, length, false), length, parsed) != count) fail("two walks", count);
-    handle(placed(message, length, true), length, parsed);
-    handle(placed(message, length, false), length, parsed);
     return parsed;
 }
 
-static int64_t server_says(struct pair *pair, const uint8_t *message, size_t length) {
-    const uint8_t *at = placed(message, length, true);
-    int64_t answer = stunp_server_validate(&pair->server, at, length, &stranger, 0, some_words);
-    at = placed(message, length, false);
-    want("two answers", stunp_server_validate(&pair->server, at, length, &stranger, 0, some_words),
-         answer);
+/* What the server makes of a datagram: the code of its answer, ACCEPTED for a request that its user
+ * has signed, or OTHER for any other datagram. */
+enum { ACCEPTED = 1, OTHER = 2 };
+
+static int64_t judge(const struct pair *pair, const uint8_t *message, size_t length) {
+    static uint8_t out[STUNP_ANSWER_MAX];
+    stunp_received received = STUNP_INIT(stunp_received);
+    int64_t kind = stunp_endpoint_server_receive(&pair->server, &pair->users, message, length,
+                                                 &stranger, 0, out, sizeof out, &received);
+    if (kind == STUNP_ANSWER) want("an answer", stunp_parse(out, received.length), 0);
+    if (kind == STUNP_ANSWER) return received.code;
+    return kind == STUNP_IS_REQUEST ? ACCEPTED : OTHER;
+}
+
+/* The same at both ends of memory. */
+static int64_t server_says(const struct pair *pair, const uint8_t *message, size_t length) {
+    int64_t outcome = judge(pair, placed(message, length, true), length);
+    const uint8_t *at = placed(message, length, false);
+    want("two outcomes", judge(pair, at, length), outcome);
     want_same("a message is left", at, message, length);
-    return answer;
+    return outcome;
 }
 
 /* The messages of the table have neither realm nor nonce. */
-static void run_table(struct pair *pair) {
+static void run_table(const struct pair *pair) {
     static uint8_t message[256];
     for (size_t i = 0; i < sizeof table / sizeof *table; i++) {
         size_t length = spell(message, table[i].digits, 4);
         want(table[i].name, read_all(message, length), 0);
-        int64_t wanted =
-            table[i].verdict == STUNP_NO_INTEGRITY ? STUNP_UNAUTHORIZED : STUNP_BAD_REQUEST;
+        int64_t wanted = table[i].verdict == STUNP_NO_INTEGRITY ? 401 : 400;
+        if (stunp_class(message, length) != STUNP_REQUEST
+            || stunp_check_fingerprint(message, length) >= STUNP_WRONG_FINGERPRINT)
+            wanted = OTHER;
         want(table[i].name, server_says(pair, message, length), wanted);
-        want(table[i].name, stunp_client_validate(&pair->client, message, length),
-             STUNP_INTEGRITY_FAILED);
         for (size_t front = 0; front < length; front++) {
             want("a front of a message", read_all(message, front), STUNP_TRUNCATED);
-            want("a front of a message", server_says(pair, message, front), STUNP_TRUNCATED);
+            want("a front of a message", server_says(pair, message, front), OTHER);
         }
     }
 }
@@ -456,42 +438,43 @@ static bool is_covered_changed(const uint8_t *message, size_t length, const stru
 }
 
 static void run_mutations(struct pair *pair, int64_t algorithm) {
-    struct message request = request_of(pair, 2);
-    want("the request", server_says(pair, request.bytes, request.length), algorithm);
-    struct message answer = answer_of(pair, 2, 0, &stranger);
+    struct message request = request_of(pair, 2), answer = validate(pair, &stranger, 0, algorithm);
+    uint8_t key[STUNP_SHA256_KEY_LENGTH];
+    size_t key_length;
+    key_of(&pair->user, key, &key_length);
+    want("the request", server_says(pair, request.bytes, request.length), ACCEPTED);
     long validated = 0, sound = 0;
     for (long i = 0; i < MUTATIONS; i++) {
         uint8_t message[512];
         size_t length = mutate(message, request.bytes, request.length);
-        int64_t parsed = read_all(message, length), verdict = server_says(pair, message, length);
-        if (parsed < 0) want("no message", verdict, parsed);
-        if (verdict > 0 && is_covered_changed(message, length, &request))
+        int64_t parsed = read_all(message, length), outcome = server_says(pair, message, length);
+        if (parsed < 0) want("no message", outcome, OTHER);
+        /* A request with attributes that the server does not know is answered after its signature
+         * was verified. */
+        bool is_validated = outcome == ACCEPTED || outcome == 420;
+        if (is_validated && is_covered_changed(message, length, &request))
             fail("a changed request is validated", i);
-        if (parsed == 0 && (verdict == 0 || verdict > algorithm || verdict < STUNP_STALE_NONCE))
-            fail("another answer", (long)verdict);
-        validated += verdict > 0;
+        validated += is_validated;
         sound += parsed == 0;
 
         length = mutate(message, answer.bytes, answer.length);
         parsed = read_all(message, length);
-        verdict = stunp_client_validate(&pair->client, placed(message, length, true), length);
+        int64_t verdict = stunp_verify(placed(message, length, true), length, key, key_length);
         if (parsed < 0) want("no message", verdict, parsed);
         if (verdict > 0 && is_covered_changed(message, length, &answer))
             fail("a changed answer is validated", i);
     }
     if (validated < MUTATIONS / 100 || sound < MUTATIONS / 4)
         fail("too few are validated", validated);
-    want("the request, still", server_says(pair, request.bytes, request.length), algorithm);
-    want("the answer, still", stunp_client_validate(&pair->client, answer.bytes, answer.length),
+    want("the request, still", server_says(pair, request.bytes, request.length), ACCEPTED);
+    want("the answer, still", stunp_verify(answer.bytes, answer.length, key, key_length),
          algorithm);
 }
 
 int main(void) {
     make_pages();
     run_messages();
-    server_address = address_of(1);
     stranger = address_of(2);
-    want("stunp_agent_new", stunp_agent_new(&agent, STUNP_UDP, &stranger), 0);
     for (uint32_t algorithms = STUNP_SHA1; algorithms <= (STUNP_SHA1 | STUNP_SHA256);
          algorithms++) {
         struct pair pair = pair_of(algorithms);
@@ -501,7 +484,6 @@ int main(void) {
         run_mutations(&pair, algorithms == STUNP_SHA1 ? STUNP_SHA1 : STUNP_SHA256);
         free_pair(&pair);
     }
-    stunp_agent_free(&agent);
     want_no_blocks("the end");
     puts("hostile: passed");
     return 0;

@@ -1,14 +1,10 @@
 /* Tests that the installed files are enough to build a program. It uses a message from the first
- * archive, and an agent from the second or (ENDPOINT) a server from the third. Its memory comes
- * from libstunp_heap.a, from heap.c (HEAP_SOURCE) or from this file (OWN_MEMORY). tests/install.sh
- * builds it. Prints the version of the header. */
+ * archive and a server from the second. Its memory comes from libstunp_heap.a, from heap.c
+ * (HEAP_SOURCE) or from this file (OWN_MEMORY). tests/install.sh builds it. Prints the version of
+ * the header. */
 #include <stdio.h>
 #include <stdlib.h>
-#ifdef ENDPOINT
 #include <stunp_endpoint.h>
-#else
-#include <stunp_state.h>
-#endif
 
 #ifdef OWN_MEMORY
 static size_t blocks;
@@ -36,7 +32,6 @@ static size_t stunp_heap_blocks(void) { return blocks; }
 #include <stunp_heap.h>
 #endif
 
-#ifdef ENDPOINT
 static int use_memory(const uint8_t *bytes, size_t length) {
     const stunp_address from = {{127, 0, 0, 1}, 3478, 4};
     const uint8_t secret[32] = {1};
@@ -56,22 +51,11 @@ static int use_memory(const uint8_t *bytes, size_t length) {
     stunp_endpoint_users_free(&users);
     return 0;
 }
-#else
-static int use_memory(const uint8_t *bytes, size_t length) {
-    const stunp_address local = {{127, 0, 0, 1}, 3478, 4}, peer = {{127, 0, 0, 2}, 3478, 4};
-    stunp_agent agent = {0};
-    if (stunp_agent_new(&agent, STUNP_UDP, &local) != 0) return 2;
-    if (stunp_agent_send_request(&agent, bytes, length, &peer, 0) != 0) return 3;
-    if (stunp_heap_blocks() == 0) return 4;
-    stunp_agent_free(&agent);
-    return 0;
-}
-#endif
 
 int main(void) {
     uint8_t id[STUNP_ID_LENGTH] = {1}, bytes[STUNP_HEADER_LENGTH];
-    int64_t length = stunp_begin(STUNP_REQUEST, STUNP_BINDING, id, sizeof id, bytes, sizeof bytes);
-    if (length != STUNP_HEADER_LENGTH) return 1;
+    stunp_writer request = stunp_write(STUNP_REQUEST, STUNP_BINDING, id, bytes, sizeof bytes);
+    if (stunp_written(&request) < 0) return 1;
     int status = use_memory(bytes, sizeof bytes);
     if (status != 0) return status;
     if (stunp_heap_blocks() != 0) return 6;

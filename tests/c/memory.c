@@ -1,8 +1,8 @@
 /* Prints whose memory the library uses. tests/memory.sh links it in several ways. FUNCTIONS makes a
- * second part of it: the three functions of stunp_state.h, or only two of them with PART, which
+ * second part of it: the three functions of stunp_endpoint.h, or only two of them with PART, which
  * print that they are called when the first block is allocated. The program itself does not refer
  * to them. With PASSED it passes functions of its own. */
-#include "stunp_state.h"
+#include "stunp_endpoint.h"
 #include <stdio.h>
 #include <stdlib.h>
 
@@ -58,25 +58,27 @@ int main(void) {
     int refused = pass();
     if (refused != 0) return refused;
 #endif
-    stunp_server server = {0};
-    stunp_agent agent = {0};
-    uint32_t words[16] = {0};
-    uint8_t request[STUNP_HEADER_LENGTH], id[STUNP_ID_LENGTH] = {1};
-    if (stunp_begin(STUNP_REQUEST, STUNP_BINDING, id, sizeof id, request, sizeof request) < 0)
-        return 1;
-    int64_t made = stunp_server_new(&server, "realm", 5);
+    static const uint8_t secret[32] = {1};
+    uint8_t request[STUNP_HEADER_LENGTH], id[STUNP_ID_LENGTH] = {1}, out[512];
+    stunp_writer writer = stunp_write(STUNP_REQUEST, STUNP_BINDING, id, request, sizeof request);
+    stunp_endpoint_server server = {0};
+    stunp_endpoint_users users = {0};
+    stunp_endpoint_server_settings settings = STUNP_INIT(stunp_endpoint_server_settings);
+    settings.realm = "realm", settings.secret = secret;
+    if (stunp_written(&writer) < 0) return 1;
+    int64_t made = stunp_endpoint_server_new(&server, &settings);
     if (made == STUNP_OUT_OF_MEMORY) puts(stunp_strerror(made));
     if (made != 0) return made != STUNP_OUT_OF_MEMORY;
+    if (stunp_endpoint_users_new(&users, &server) != 0) return 2;
     for (uint16_t port = 1; port < 100; port++) {
         const stunp_address from = {{192, 0, 2, 1}, port, 4};
-        if (stunp_server_validate(&server, request, sizeof request, &from, 0, words)
-            != STUNP_UNAUTHORIZED)
+        if (stunp_endpoint_server_receive(&server, &users, request, sizeof request, &from, 0, out,
+                                          sizeof out, NULL)
+            != STUNP_ANSWER)
             return 3;
     }
-    const stunp_address local = {{192, 0, 2, 2}, 3478, 4};
-    if (stunp_agent_new(&agent, STUNP_UDP, &local) != 0) return 4;
-    stunp_agent_free(&agent);
-    stunp_server_free(&server);
+    stunp_endpoint_users_free(&users);
+    stunp_endpoint_server_free(&server);
 #ifndef PASSED
     if (stunp_set_memory(malloc, realloc, free) != STUNP_ALREADY_IN_PROGRESS) return 5;
 #endif

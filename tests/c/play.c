@@ -18,7 +18,6 @@
  * that it cannot read, or a byte that was changed, ends it. */
 #include "heap.h"
 #include "stunp_endpoint.h"
-#include "stunp_state.h"
 #include <stdio.h>
 #include <stdlib.h>
 #include <string.h>
@@ -123,15 +122,6 @@ static const stunp_address *address(void) {
     return copied(&address, sizeof address);
 }
 
-static const stunp_timeouts *timeouts(void) {
-    stunp_timeouts timeouts = {sizeof timeouts, 0, 0, 0, 0};
-    timeouts.initial = number();
-    timeouts.longest = number();
-    timeouts.last = number();
-    timeouts.transmissions = short_number();
-    return copied(&timeouts, sizeof timeouts);
-}
-
 /* For a call that returns how many bytes it wrote. */
 static int64_t wrote(block *out, int64_t answer) {
     out->written = answer > 0 ? (size_t)answer : 0;
@@ -194,12 +184,7 @@ CALL(long_term_key, uint32_t algorithm = short_number(); block *name = bytes();
 CALL(userhash, block *name = bytes(); block *realm = bytes(); block *out = output(),
      wrote(out, stunp_userhash(LETTERS(name), LETTERS(realm), ALL(out))))
 
-/* ---- The calls with state. A new object takes the place of the one before. */
-
-static stunp_agent agent;
-static stunp_server server;
-static stunp_client client;
-
+/* A new object takes the place of the one before. */
 #define MAKES(kind, call)                                                     \
     do {                                                                      \
         stunp_##kind fresh = {0, NULL};                                        \
@@ -211,124 +196,6 @@ static stunp_client client;
         kind = fresh;                                                         \
         return answer;                                                        \
     } while (0)
-
-static int64_t agent_new(void) {
-    uint32_t transport = short_number();
-    const stunp_address *local = address();
-    MAKES(agent, stunp_agent_new(&fresh, transport, local));
-}
-
-static int64_t agent_new_with(void) {
-    uint32_t transport = short_number();
-    const stunp_address *local = address(), *remote = address();
-    const stunp_timeouts *waits = timeouts();
-    MAKES(agent, stunp_agent_new_with(&fresh, transport, local, remote, waits));
-}
-
-static int64_t server_new(void) {
-    block *realm = bytes();
-    MAKES(server, stunp_server_new(&fresh, LETTERS(realm)));
-}
-
-static int64_t client_new(void) { MAKES(client, stunp_client_new(&fresh)); }
-
-CALL(agent_send_request, block *message = bytes(); const stunp_address *to = address(),
-     stunp_agent_send_request(&agent, ALL(message), to, number()))
-CALL(agent_send, block *message = bytes(), stunp_agent_send(&agent, ALL(message), address()))
-CALL(agent_handle, block *message = bytes(); const stunp_address *from = address(),
-     stunp_agent_handle(&agent, ALL(message), from, number()))
-CALL(agent_validated_peer, (void)0, stunp_agent_validated_peer(&agent, address()))
-CALL(agent_is_validated_peer, (void)0, stunp_agent_is_validated_peer(&agent, address()))
-CALL(agent_cancel, block *id = bytes(), stunp_agent_cancel(&agent, ALL(id)))
-CALL(agent_cancel_retransmissions, block *id = bytes(),
-     stunp_agent_cancel_retransmissions(&agent, ALL(id)))
-CALL(agent_configure, block *id = bytes(), stunp_agent_configure(&agent, ALL(id), timeouts()))
-
-static int64_t agent_poll(void) {
-    uint64_t now = number();
-    block *until = block_of(sizeof(uint64_t)), *id = output();
-    int64_t answer = stunp_agent_poll(&agent, now, VALUE(uint64_t, until), ALL(id));
-    wrote_all(until, answer == 0);
-    id->written = answer > 0 ? STUNP_ID_LENGTH : 0;
-    return answer;
-}
-
-static int64_t agent_poll_transmit(void) {
-    uint64_t now = number();
-    block *out = output(), *to = block_of(sizeof(stunp_address));
-    int64_t answer = stunp_agent_poll_transmit(&agent, now, ALL(out), VALUE(stunp_address, to));
-    wrote_all(to, answer > 0);
-    return wrote(out, answer);
-}
-
-static int64_t agent_is_outstanding(void) {
-    block *id = bytes(), *peer = block_of(sizeof(stunp_address));
-    int64_t answer = stunp_agent_is_outstanding(&agent, ALL(id), VALUE(stunp_address, peer));
-    wrote_all(peer, answer == 1);
-    return answer;
-}
-
-static int64_t agent_statistics(void) {
-    static const stunp_statistics fresh = {.size = sizeof fresh};
-    block *counts = block_of_value(&fresh, sizeof fresh);
-    int64_t answer = stunp_agent_statistics(&agent, VALUE(stunp_statistics, counts));
-    wrote_all(counts, answer == 0);
-    return answer;
-}
-
-CALL(server_set_algorithms, (void)0, stunp_server_set_algorithms(&server, short_number()))
-CALL(server_set_anonymous_username, (void)0,
-     stunp_server_set_anonymous_username(&server, short_number()))
-CALL(server_set_nonce_expiry, (void)0, stunp_server_set_nonce_expiry(&server, number()))
-CALL(server_add_user, block *name = bytes(); block *password = bytes(),
-     stunp_server_add_user(&server, LETTERS(name), LETTERS(password)))
-CALL(server_remove_user, block *name = bytes(), stunp_server_remove_user(&server, LETTERS(name)))
-CALL(server_remove_client, (void)0, stunp_server_remove_client(&server, address()))
-CALL(server_forget, (void)0, stunp_server_forget(&server, address()))
-CALL(server_forget_expired, uint64_t now = number(),
-     stunp_server_forget_expired(&server, now, number()))
-CALL(server_sign, block *message = buffer(),
-     wrote(message, stunp_server_sign(&server, USED(message), address())))
-
-static int64_t server_forget_expired_within(void) {
-    uint64_t now = number(), age = number();
-    block *from = block_of_value(address(), sizeof(stunp_address));
-    int64_t answer = stunp_server_forget_expired_within(
-        &server, now, age, VALUE(stunp_address, from), (size_t)number());
-    wrote_all(from, answer >= 0);
-    return answer;
-}
-
-static int64_t server_client(void) {
-    const stunp_address *at = address();
-    block *name = output(), *length = block_of(sizeof(size_t));
-    int64_t answer = stunp_server_client(&server, at, ALL(name), VALUE(size_t, length));
-    wrote_all(length, answer > 0);
-    name->written = answer > 0 ? *VALUE(size_t, length) : 0;
-    return answer;
-}
-
-CALL(server_nonce, const stunp_address *at = address(); block *nonce = output(),
-     wrote(nonce, stunp_server_nonce(&server, at, ALL(nonce))))
-
-static int64_t server_validate(void) {
-    block *message = bytes();
-    const stunp_address *from = address();
-    uint64_t now = number();
-    uint32_t words[16];
-    for (int i = 0; i < 16; i++) words[i] = short_number();
-    return stunp_server_validate(&server, ALL(message), from, now, copied(words, sizeof words));
-}
-
-CALL(client_set_credentials, block *name = bytes(); block *password = bytes(),
-     stunp_client_set_credentials(&client, LETTERS(name), LETTERS(password)))
-CALL(client_set_algorithms, (void)0, stunp_client_set_algorithms(&client, short_number()))
-CALL(client_set_anonymous_username, (void)0,
-     stunp_client_set_anonymous_username(&client, short_number()))
-CALL(client_signing_algorithm, (void)0, stunp_client_signing_algorithm(&client))
-CALL(client_sign, block *message = buffer(),
-     wrote(message, stunp_client_sign(&client, USED(message))))
-CALL(client_validate, block *message = bytes(), stunp_client_validate(&client, ALL(message)))
 
 /* ---- The calls of the endpoint. The reply answers the last request that was passed to the
  * caller. */
@@ -639,28 +506,8 @@ static const struct { const char *name; int64_t (*call)(void); } calls[] = {
     {"error-code", error_code}, {"verify", verify}, {"id", id}, {"next", next},
     {"xor-mapped-address", xor_mapped_address}, {"begin", begin}, {"add", add},
     {"add-xor-mapped-address", add_xor_mapped_address}, {"add-error", add_error}, {"sign", sign},
-    {"long-term-key", long_term_key}, {"userhash", userhash}, {"agent-new", agent_new},
-    {"agent-new-with", agent_new_with}, {"agent-send-request", agent_send_request},
-    {"agent-send", agent_send}, {"agent-poll", agent_poll},
-    {"agent-poll-transmit", agent_poll_transmit}, {"agent-handle", agent_handle},
-    {"agent-validated-peer", agent_validated_peer},
-    {"agent-is-validated-peer", agent_is_validated_peer},
-    {"agent-is-outstanding", agent_is_outstanding}, {"agent-cancel", agent_cancel},
-    {"agent-cancel-retransmissions", agent_cancel_retransmissions},
-    {"agent-configure", agent_configure}, {"agent-statistics", agent_statistics},
-    {"server-new", server_new}, {"server-set-algorithms", server_set_algorithms},
-    {"server-set-anonymous-username", server_set_anonymous_username},
-    {"server-set-nonce-expiry", server_set_nonce_expiry}, {"server-add-user", server_add_user},
-    {"server-remove-user", server_remove_user}, {"server-remove-client", server_remove_client},
-    {"server-forget", server_forget}, {"server-forget-expired", server_forget_expired},
-    {"server-forget-expired-within", server_forget_expired_within},
-    {"server-client", server_client}, {"server-nonce", server_nonce},
-    {"server-validate", server_validate}, {"server-sign", server_sign}, {"client-new", client_new},
-    {"client-set-credentials", client_set_credentials},
-    {"client-set-algorithms", client_set_algorithms},
-    {"client-set-anonymous-username", client_set_anonymous_username},
-    {"client-signing-algorithm", client_signing_algorithm}, {"client-sign", client_sign},
-    {"client-validate", client_validate}, {"endpoint-build", endpoint_build},
+    {"long-term-key", long_term_key}, {"userhash", userhash},
+    {"endpoint-build", endpoint_build},
     {"endpoint-users-add", endpoint_users_add},
     {"endpoint-users-add-keys", endpoint_users_add_keys},
     {"endpoint-users-remove", endpoint_users_remove},
@@ -705,17 +552,13 @@ static void finish(int64_t answer) {
 #define IS_SAME(one, other) ((one).state == (other).state)
 
 static void make(int64_t (*call)(void)) {
-    stunp_agent old_agent = agent;
-    stunp_server old_server = server;
-    stunp_client old_client = client;
     stunp_endpoint_server old_endpoint = endpoint_server;
     stunp_endpoint_users old_users = endpoint_users;
     stunp_ice_checker old_checker = ice_checker;
     stunp_endpoint_client old_asker = endpoint_client;
     size_t asked = stunp_heap_asked();
     int64_t answer = call();
-    if (answer < 0 && !(IS_SAME(agent, old_agent) && IS_SAME(server, old_server)
-                        && IS_SAME(client, old_client) && IS_SAME(endpoint_server, old_endpoint)
+    if (answer < 0 && !(IS_SAME(endpoint_server, old_endpoint)
                         && IS_SAME(endpoint_users, old_users)
                         && IS_SAME(ice_checker, old_checker)
                         && IS_SAME(endpoint_client, old_asker)))
@@ -731,9 +574,6 @@ static void play(const char *name) {
         return;
     }
     if (strcmp(name, "reset") == 0) {
-        stunp_agent_free(&agent);
-        stunp_server_free(&server);
-        stunp_client_free(&client);
         stunp_endpoint_server_free(&endpoint_server);
         stunp_endpoint_users_free(&endpoint_users);
         stunp_ice_checker_free(&ice_checker);

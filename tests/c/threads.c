@@ -6,54 +6,62 @@
  *
  *     threads [ROUNDS] */
 #include "fixture.h"
-#include "stunp_endpoint.h"
 #include <pthread.h>
 
 enum { THREADS = 4, SETS = 6, LONGEST = 200 };
 
 static uint32_t rounds = 200;
 
-/* Handles of each kind, which are passed on together. Their bytes are copied, and the older copy is
- * not used again. */
+/* Handles of a server, its users and a client, which are passed on together. Their bytes are
+ * copied, and the older copy is not used again. */
 struct set {
     struct pair pair;
-    stunp_agent agent;
+    stunp_endpoint_client client;
     uint32_t number, uses;
 };
 
 static struct set make_set(uint32_t number) {
+    static const uint8_t seed[32] = {9};
     struct set set = {.pair = pair_of(STUNP_SHA1 | STUNP_SHA256), .number = number};
-    stunp_address local = address_of(1);
-    want("stunp_agent_new", stunp_agent_new(&set.agent, STUNP_UDP, &local), 0);
+    stunp_endpoint_client_settings settings = STUNP_INIT(stunp_endpoint_client_settings);
+    settings.server = address_of(2), settings.seed = seed, settings.accepts_unsigned = true;
+    want("a client", stunp_endpoint_client_new(&set.client, &settings), 0);
     return set;
 }
 
 static void free_set(struct set *set) {
     free_pair(&set->pair);
-    stunp_agent_free(&set->agent);
+    stunp_endpoint_client_free(&set->client);
 }
 
-/* A request that is sent again once, and answered. */
-static void use_agent(stunp_agent *agent, uint32_t number, uint64_t now) {
-    struct message request = message_of(STUNP_REQUEST, number);
-    struct message answer = message_of(STUNP_SUCCESS, number);
-    stunp_address peer = address_of(2), to;
-    uint8_t again[64];
-    want("sent", stunp_agent_send_request(agent, request.bytes, request.length, &peer, now), 0);
+/* A request that is sent, sent again once, and answered. */
+static void use_client(stunp_endpoint_client *client, uint64_t now) {
+    uint8_t bytes[64], again[64];
+    stunp_address peer = address_of(2);
+    stunp_event event = STUNP_INIT(stunp_event);
+    stunp_drop why;
+    uint64_t request;
+    want("asked", stunp_endpoint_client_request(client, STUNP_BINDING, NULL, now, &request), 0);
+    want("sent", stunp_endpoint_client_poll(client, now, bytes, sizeof bytes, &event),
+         STUNP_TRANSMIT);
     now += SECOND / 2;
-    int64_t length = stunp_agent_poll_transmit(agent, now, again, sizeof again, &to);
-    want("sent again", length, (int64_t)request.length);
-    want_same("the same", again, request.bytes, request.length);
-    want("ended", stunp_agent_handle(agent, answer.bytes, answer.length, &peer, now), 1);
+    want("sent again", stunp_endpoint_client_poll(client, now, again, sizeof again, &event),
+         STUNP_TRANSMIT);
+    want_same("the same", again, bytes, event.length);
+    stunp_writer answer = stunp_write(STUNP_SUCCESS, STUNP_BINDING, bytes + 8, again,
+                                      sizeof again);
+    want("answered", stunp_endpoint_client_receive(client, again, answer.length, &peer, now, &why),
+         STUNP_IS_RESPONSE);
+    want("ended", stunp_endpoint_client_poll(client, now, bytes, sizeof bytes, &event),
+         STUNP_ENDED);
 }
 
 /* The server challenges the client the first time, and validates its requests from then on. */
 static void use(struct set *set) {
     stunp_address from = address_of(100 + set->number);
-    uint64_t now = set->uses * SECOND;
-    if (set->uses == 0) challenge(&set->pair, &from, now);
-    else validate(&set->pair, &from, now, STUNP_SHA256);
-    use_agent(&set->agent, set->uses, now);
+    if (set->uses == 0) challenge(&set->pair, &from, set->uses);
+    else validate(&set->pair, &from, set->uses, STUNP_SHA256);
+    use_client(&set->client, set->uses * SECOND);
     set->uses++;
 }
 
@@ -170,34 +178,32 @@ static const stunp_endpoint_users *shared_users(const stunp_endpoint_users *othe
     return users;
 }
 
-/* A request of the client, and what the server answers it. */
-static uint32_t judge(stunp_client *client, int own, uint32_t number, uint8_t *out,
+/* A request of the user, and what the server answers it. */
+static uint32_t judge(const struct user *user, int own, uint32_t number, uint8_t *out,
                       stunp_received *received) {
     stunp_address from = address_of(200u + (uint32_t)own);
     struct message request = message_of(STUNP_REQUEST, number);
     const stunp_endpoint_users *users = shared_users(NULL);
-    int64_t length = stunp_client_sign(client, request.bytes, sizeof request.bytes, request.length);
-    want("signed", length < STUNP_HEADER_LENGTH ? length : 0, 0);
+    stunp_writer writer = stunp_write_on((int64_t)request.length, request.bytes,
+                                         sizeof request.bytes);
+    write_signature(&writer, user);
+    want("signed", stunp_written(&writer), 0);
     want("answered", stunp_endpoint_server_receive(&shared.server, users, request.bytes,
-         (size_t)length, &from, 1000, out, STUNP_ANSWER_MAX, received), STUNP_ANSWER);
+         writer.length, &from, 1000, out, STUNP_ANSWER_MAX, received), STUNP_ANSWER);
     return received->code;
 }
 
 static void *work_shared(void *number) {
     int own = *(int *)number;
     uint8_t *out = malloc(STUNP_ANSWER_MAX);
-    stunp_client client = {0};
+    struct user user = {0};
     stunp_received received = STUNP_INIT(stunp_received);
-    want("client", stunp_client_new(&client), 0);
-    want("algorithms", stunp_client_set_algorithms(&client, STUNP_SHA1 | STUNP_SHA256), 0);
-    want("credentials", stunp_client_set_credentials(&client, "name", 4, "password", 8), 0);
-    want("401", judge(&client, own, 1, out, &received), 401);
-    want("a 401", stunp_client_validate(&client, out, received.length), STUNP_RESEND);
+    want("401", judge(&user, own, 1, out, &received), 401);
+    want("a 401", judge_response(&user, out, received.length), RESEND);
     for (uint32_t i = 0; i < rounds; i++) {
-        want("success", judge(&client, own, i + 2, out, &received), 0);
-        want("signed", stunp_client_validate(&client, out, received.length), STUNP_SHA256);
+        want("success", judge(&user, own, i + 2, out, &received), 0);
+        want("signed", judge_response(&user, out, received.length), STUNP_SHA256);
     }
-    stunp_client_free(&client);
     free(out);
     return number;
 }

@@ -1,13 +1,10 @@
-// The header for C++17, stunp.hpp: a check of ICE that is written, signed, read and verified, a
-// server and a client that meet in memory, and the endpoints. tests/examples.sh compares what it prints.
+// The header for C++17, stunp.hpp: a check of ICE that is written, signed, read and verified, and
+// the endpoints. tests/examples.sh compares what it prints.
 #include "stunp.hpp"
 #include <cstdio>
 
 static const std::array<uint8_t, STUNP_ID_LENGTH> first_id{1}, second_id{2}, third_id{3};
 static const stunp::address home{{192, 0, 2, 1}, 32853, 4};
-
-// In a program these are of a source that nobody can foretell.
-static const std::array<uint32_t, 16> words{3, 1, 4, 1, 5, 9, 2, 6, 5, 3, 5, 8, 9, 7, 9, 3};
 
 static void show(const char *what, const char *said) { std::printf("%s: %s\n", what, said); }
 
@@ -60,91 +57,6 @@ static void write_and_read() {
     static_assert(!std::is_constructible_v<stunp::message, stunp::bytes>);
 }
 
-// ---- A server of a realm, and a client.
-
-// What the server says of a request, and what it sends.
-static stunp::writer serve(stunp::server &server, stunp::view request) {
-    auto header = stunp::message{request}.header();
-    auto verdict = server.validate(request, home, 0, words);
-    show("server", name_or_refusal(verdict));
-    auto who = server.client(home);
-    bool is_known = who && !who->empty();
-    if (is_known) show("served", who->c_str());
-    auto kind = is_known ? STUNP_SUCCESS : STUNP_ERROR;
-    stunp::writer answer(kind, STUNP_BINDING, header->id);
-    if (is_known) answer.add_address(STUNP_XOR_MAPPED_ADDRESS, home);
-    else answer.add_error(401, "Unauthenticated");
-    answer.sign(server, home);
-    return answer;
-}
-
-// What the client says of the answer.
-static bool hear(stunp::client &client, const stunp::writer &answer) {
-    auto bytes = answer.finish();
-    if (!bytes) return show("no answer", bytes.text()), false;
-    stunp::message message{*bytes};
-    auto verdict = client.validate(*bytes);
-    if (!verdict && !verdict.is_resend()) return show("client", verdict.text()), false;
-    if (verdict.is_resend())
-        std::printf("client: asks again after %d\n", int(*message.error_code()));
-    auto seen = message.find_address(STUNP_XOR_MAPPED_ADDRESS);
-    if (seen)
-        std::printf("client: seen at %u.%u.%u.%u, port %u\n", seen->octets[0], seen->octets[1],
-                    seen->octets[2], seen->octets[3], seen->port);
-    return bool(seen);
-}
-
-static bool is_served(stunp::client &client, stunp::server &server, stunp::view id) {
-    stunp::writer request(STUNP_REQUEST, STUNP_BINDING, id);
-    auto bytes = request.sign(client).finish();
-    if (!bytes) return show("no request", bytes.text()), false;
-    return hear(client, serve(server, *bytes));
-}
-
-static void meet(const char *password) {
-    auto server = stunp::server::make("realm", stunp::both);
-    auto client = stunp::client::make("name", password, stunp::both);
-    if (!server || !client || !server->add_user("name", "password")) return show("no", "memory");
-    if (is_served(*client, *server, first_id)) show("the first request", "served");
-    if (is_served(*client, *server, second_id)) show("the second request", "served");
-}
-
-// ---- A server with users of a database, of which it has the stored keys.
-
-static void meet_from_a_database() {
-    const auto sha1 = stunp::long_term_key(STUNP_SHA1, "name", "realm", "password");
-    const auto sha256 = stunp::long_term_key(STUNP_SHA256, "name", "realm", "password");
-    auto server = stunp::server::make("realm", stunp::both);
-    auto client = stunp::client::make("name", "password", stunp::both);
-    if (!server || !client || !sha1 || !sha256) return show("no", "memory");
-    is_served(*client, *server, first_id);
-    auto request = stunp::writer(STUNP_REQUEST, STUNP_BINDING, second_id).sign(*client).finish();
-    const auto named = server->named_user(*request, home);
-    const auto hash = stunp::userhash("name", "realm");
-    bool is_known = named && named->by == STUNP_BY_HASH && stunp::view(named->text).copy() == *hash;
-    show("the user is named", is_known ? "by the hash" : "otherwise");
-    const stunp::stored_user user{"name", *sha1, *sha256};
-    const stunp::user other{"name", "guess"};
-    show("another password",
-         name_or_refusal(server->validate(*request, home, 0, words, other)));
-    show("the stored keys", name_or_refusal(server->validate(*request, home, 0, words, user)));
-    auto prepared = server->prepare(user);
-    if (!prepared) return show("no user", prepared.text());
-    show("the same, prepared",
-         name_or_refusal(server->validate(*request, home, 0, words, *prepared)));
-    const auto success = [&](const auto &by) {
-        return stunp::writer(STUNP_SUCCESS, STUNP_BINDING, second_id)
-            .add_address(STUNP_XOR_MAPPED_ADDRESS, home).sign(*server, home, by).finish();
-    };
-    auto answer = success(user);
-    show("signed by either", *answer == *success(*prepared) ? "the same" : "otherwise");
-    show("the client", name_or_refusal(client->validate(*answer)));
-    show("no client is left", server->remove_client(home).text());
-    show("a young clock", server->forget_expired(1, 2).text());
-    // A call that the header has not, with texts as they are.
-    show("one more user", stunp::ask(stunp_server_add_user, server->get(), "bob", "word").text());
-}
-
 // ---- The endpoints.
 
 // What a datagram comes to, in a word and a number.
@@ -159,11 +71,28 @@ static void say(const stunp::result<stunp::endpoint::received> &got) {
     if (got->dropped()) show("dropped", got->dropped());
 }
 
-// A request that a client signs by what it was told, or a plain one without a client.
-static stunp::bytes request_of(const stunp::client *client, uint32_t method) {
+// The key of the user whom these servers have.
+static stunp::bytes key_of_user() {
+    return *stunp::long_term_key(STUNP_SHA256, "name", "realm", "password");
+}
+
+// A request that the user signs by what a 401 says, or a plain one without a 401.
+static stunp::bytes request_of(const stunp::bytes &challenge, uint32_t method) {
     stunp::writer request(STUNP_REQUEST, method, first_id);
-    if (client != nullptr) request.sign(*client);
+    if (!challenge.empty()) {
+        stunp::message message{challenge};
+        request.add(STUNP_USERHASH, *stunp::userhash("name", "realm"));
+        for (uint16_t type : {STUNP_REALM, STUNP_NONCE, STUNP_PASSWORD_ALGORITHMS})
+            request.add(type, *message.find(type));
+        const std::array<uint8_t, 4> sha256{0, 2, 0, 0};
+        request.add(STUNP_PASSWORD_ALGORITHM, sha256).sign(STUNP_SHA256, key_of_user());
+    }
     return request.finish()->copy();
+}
+
+// Whether a response is signed by the user's key.
+static stunp::verdict judge(stunp::view response) {
+    return stunp::message{response}.verify(key_of_user());
 }
 
 static void long_term_server() {
@@ -173,15 +102,14 @@ static void long_term_server() {
     auto server = stunp::endpoint::server::make(settings);
     if (!server) return show("no server", server.text());
     auto users = stunp::endpoint::users::make(*server);
-    auto client = stunp::client::make("name", "password", stunp::both);
-    if (!users || !client || !users->add("name", "password")) return show("no", "memory");
-    auto got = server->receive(*users, request_of(nullptr, STUNP_BINDING), home, 1700000000);
+    if (!users || !users->add("name", "password")) return show("no", "memory");
+    auto got = server->receive(*users, request_of({}, STUNP_BINDING), home, 1700000000);
     say(got);
-    if (!client->validate(*got->answer()).is_resend()) return show("client", "is lost");
-    auto request = request_of(&*client, STUNP_BINDING);
+    auto challenge = got->answer()->copy();
+    auto request = request_of(challenge, STUNP_BINDING);
     got = server->receive(*users, request, home, 1700000000);
     say(got);
-    show("the client", name_or_refusal(client->validate(*got->answer())));
+    show("the client", name_or_refusal(judge(*got->answer())));
     say(server->identify(request, home, 1700000000));
     auto found = STUNP_INIT(stunp_found_user);
     found.name = "name", found.name_length = 4, found.password = "password";
@@ -189,20 +117,20 @@ static void long_term_server() {
     say(server->resume(nullptr, request, home, 1700000000));
     auto cause = server->cause_for(nullptr, request, home, 1700000000);
     show("cause", stunp_cause_text(cause.number()));
-    cause = server->cause(*users, request_of(nullptr, STUNP_BINDING), home, 1700000000);
+    cause = server->cause(*users, request_of({}, STUNP_BINDING), home, 1700000000);
     show("cause", stunp_cause_text(cause.number()));
     show("cause", stunp_cause_text(server->cause(*users, request, home, ~0ull).number()));
     stunp::endpoint::received kept;
     auto why = stunp_cause();
-    auto kind = server->receive_with_cause(kept, why, *users, request_of(nullptr, STUNP_BINDING),
+    auto kind = server->receive_with_cause(kept, why, *users, request_of({}, STUNP_BINDING),
                                            home, 1700000000);
     show("beside an answer", kind && kept.answer() ? stunp_cause_text(why) : kind.text());
-    got = server->receive(*users, request_of(&*client, STUNP_ALLOCATE), home, 1700000000);
+    got = server->receive(*users, request_of(challenge, STUNP_ALLOCATE), home, 1700000000);
     say(got);
     const stunp_reply &reply = *got->request();
     auto answer = stunp::endpoint::success(reply).add_number(STUNP_LIFETIME, 600, 4).sign(reply)
                       .finish();
-    show("the client", name_or_refusal(client->validate(*answer)));
+    show("the client", name_or_refusal(judge(*answer)));
     show("a late error", stunp::endpoint::error(reply, 299, "").sign(reply).finish().text());
     if (!users->remove("name")) return show("not", "removed");
     say(server->receive(*users, request, home, 1700000000));
@@ -216,7 +144,7 @@ static void other_servers() {
     settings.credentials = STUNP_SHORT_TERM;
     auto session = stunp::endpoint::server::make(settings);
     if (!open || !session) return show("no", "memory");
-    say(open->receive(request_of(nullptr, STUNP_BINDING), home));
+    say(open->receive(request_of({}, STUNP_BINDING), home));
     say(open->receive("no message", home));
     // A 420 that lists many attributes wants more room than most answers.
     stunp::writer many(STUNP_REQUEST, STUNP_BINDING, first_id, 8192);
@@ -385,18 +313,24 @@ static void check_a_pair() {
 // ---- Handles.
 
 static void move_handles() {
-    auto made = stunp::agent::make(home);
-    stunp::agent agent = std::move(*made), other;
-    other = std::move(agent);
-    stunp::writer request(STUNP_REQUEST, STUNP_BINDING, third_id);
-    auto bytes = request.finish();
-    auto send = [&](stunp::agent &by) {
-        return stunp::ask(stunp_agent_send_request, by.get(), *bytes, &home, 0u).text();
+    static const uint8_t secret[32] = {1};
+    auto settings = STUNP_INIT(stunp::endpoint::settings);
+    settings.realm = "realm", settings.secret = secret;
+    auto made = stunp::endpoint::server::make(settings);
+    stunp::endpoint::server server = std::move(*made), other;
+    other = std::move(server);
+    // A call that the header has not, with texts as they are.
+    auto users_of = [](stunp::endpoint::server &of) {
+        auto users = stunp::endpoint::users::make(of);
+        if (!users) return users.text();
+        return stunp::ask(stunp_endpoint_users_add, users->get(), "bob", "word").text();
     };
-    show("the agent", send(other));
-    show("what is left", send(agent));
-    show("a server of no text", stunp::server::make("\xff").text());
-    show("an empty realm", stunp::server::make(std::string_view{}).text());
+    show("the server", users_of(other));
+    show("what is left", users_of(server));
+    settings.realm = "\xff";
+    show("a server of no text", stunp::endpoint::server::make(settings).text());
+    settings.realm = "";
+    show("an empty realm", stunp::endpoint::server::make(settings).text());
 }
 
 // A value that was moved has nothing of the other one.
@@ -426,9 +360,6 @@ static void move_values() {
 
 int main() {
     write_and_read();
-    meet("password");
-    meet("guess");
-    meet_from_a_database();
     long_term_server();
     other_servers();
     long_passwords();

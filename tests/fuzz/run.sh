@@ -3,9 +3,9 @@
 #
 #     tests/fuzz/run.sh [SECONDS] [CORPUS]       10 seconds; a release takes 600
 #
-# Two programs share the time: fuzz.c has the calls of stunp.h and stunp_state.h, and endpoint.c
-# those of stunp_endpoint.h and the small headers. They take the archives that STUN_C, STUN_STATE
-# and STUN_ENDPOINT name, or else those that `rt lib` built. Where clang has libFuzzer it runs them,
+# Two programs share the time: fuzz.c has the calls of stunp.h, and endpoint.c those of
+# stunp_endpoint.h and the small headers. They take the archives that STUN_C and STUN_ENDPOINT name,
+# or else those that `rt lib` built. Where clang has libFuzzer it runs them,
 # from the seeds of seeds.py and the files of the folder CORPUS, where it leaves what it found new;
 # an input that fails is written to target/fuzz. Elsewhere they play a number of inputs by the time,
 # with seeds and without, always the same. The last line says what was run.
@@ -13,8 +13,7 @@ set -eu
 top=$(cd "$(dirname "$0")/../.." && pwd)
 seconds=${1:-10}
 messages=${STUN_C:-$top/crates/stun_c/out/libstun_c.a}
-state=${STUN_STATE:-$top/crates/stun_state/out/libstun_state.a}
-endpoint=${STUN_ENDPOINT:-${STUN_STATE:-$top/crates/stun_c_endpoint/out/libstun_c_endpoint.a}}
+endpoint=${STUN_ENDPOINT:-$top/crates/stun_c_endpoint/out/libstun_c_endpoint.a}
 . "$top/tools/compiler.sh"
 scratch=$(mktemp -d)
 trap 'rm -rf "$scratch"' EXIT
@@ -28,7 +27,7 @@ build() {
     shift
     "$@" -std=c99 -D_DEFAULT_SOURCE -O1 -g -Wall -Wextra -Werror -I"$top/include" \
         -I"$top/examples/c" $(inlined "$messages") "$top/tests/fuzz/$name.c" \
-        "$top/examples/c/heap.c" "$state" "$endpoint" "$messages" -lpthread -ldl -lm \
+        "$top/examples/c/heap.c" "$endpoint" "$messages" -lpthread -ldl -lm \
         -o "$scratch/$name"
 }
 

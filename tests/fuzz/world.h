@@ -1,13 +1,11 @@
-/* What the steps of an input share, for fuzz.c: the handles that are kept, the addresses, and the
- * room that is written to. */
+/* What the steps of an input share, for fuzz.c: the addresses, and the room that is written to. */
 #ifndef STUN_FUZZ_WORLD_H
 #define STUN_FUZZ_WORLD_H
 
 #include "../../bench/hostile.h"
-#include "heap.h"
-#include "stunp_state.h"
+#include "stunp.h"
 
-enum { MOST_ATTRIBUTES = 64, ROOM = 4096, BEHIND = 64, AMPLE = 256, MOST_ADDED = 2304 };
+enum { MOST_ATTRIBUTES = 64, ROOM = 4096, BEHIND = 64, AMPLE = 256 };
 enum { PATTERN = 0xa5, ID_AT = 8 };
 
 #define TEXT(letters) (letters), sizeof(letters) - 1
@@ -21,9 +19,7 @@ static void require(bool is_so, const char *what) {
 
 /* The kinds of the steps. */
 enum step {
-    READ, VERIFY, WRITE, BEGIN, TEXTS, /* of stunp.h */
-    SERVER_HEARS, CLIENT_HEARS, EXCHANGE, AGENT_SENDS, AGENT_HEARS, AGENT_IS_ASKED,
-    TIME, SERVER_IS_SET, CLIENT_IS_SET, USERS, FORGET, MEMORY, HANDLES,
+    READ, VERIFY, WRITE, BEGIN, TEXTS,
     STEPS
 };
 
@@ -32,15 +28,6 @@ struct bytes {
     const uint8_t *at, *origin;
     size_t length;
 };
-
-static struct {
-    stunp_server server;
-    stunp_client client;
-    stunp_agent agent;
-    const stunp_address *remote; /* to which alone the agent sends, or NULL */
-    size_t most;                 /* addresses that the server keeps */
-    uint64_t now;
-} world;
 
 static const stunp_address addresses[] = {
     {{192, 0, 2, 1}, 3478, 4},
@@ -51,9 +38,6 @@ static const stunp_address addresses[] = {
 };
 static const stunp_address *address_of(uint8_t setting) {
     return addresses + setting % (sizeof addresses / sizeof *addresses);
-}
-static bool is_address(const stunp_address *address) {
-    return address->length == 4 || address->length == 16;
 }
 
 /* What is written goes here; behind the room that a call has, nothing may change. */

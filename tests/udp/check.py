@@ -24,7 +24,7 @@ import alone
 import endpoint
 import harness
 import pairs
-from harness import STATE, STATELESS, TOP, USER, Server, stun
+from harness import STATELESS, TOP, USER, Server, stun
 
 BOTH = ((), ("--sha256",))
 WRONG_SERVER_WORDS = ((), ("x",), ("0", "realm"), ("0", "realm", "name"), ("0", "--workers"),

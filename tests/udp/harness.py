@@ -20,9 +20,8 @@ sys.path.insert(0, str(HERE.parent))
 import stun  # noqa: E402
 
 TOP = HERE.parent.parent
-STATE = pathlib.Path(os.environ.get("STUN_STATE", TOP / "crates/stun_state/out/libstun_state.a"))
-ENDPOINT = pathlib.Path(os.environ.get("STUN_ENDPOINT", os.environ.get(
-    "STUN_STATE", TOP / "crates/stun_c_endpoint/out/libstun_c_endpoint.a")))
+ENDPOINT = pathlib.Path(os.environ.get(
+    "STUN_ENDPOINT", TOP / "crates/stun_c_endpoint/out/libstun_c_endpoint.a"))
 BESIDE = os.environ.get("LIBRARIES", "")  # what these archives want of the system
 STATELESS = pathlib.Path(os.environ.get("STUN_C", TOP / "crates/stun_c/out/libstun_c.a"))
 REALM, NAME, PASSWORD = "example.org", "alice", "wonderland"
@@ -60,10 +59,10 @@ def build(folder):
     not."""
     if not os.environ.get("CC") and shutil.which("cc") is None:
         return None, "no C compiler"
-    for archive, crate in ((STATE, "stun_state"), (ENDPOINT, "stun_c_endpoint")):
-        if not archive.exists() and (TOP / "crates" / crate).exists() and shutil.which("rt"):
-            subprocess.run(["rt", "lib"], cwd=TOP / "crates" / crate, capture_output=True)
-    for archive in (STATE, ENDPOINT, STATELESS):
+    crate = TOP / "crates/stun_c_endpoint"
+    if not ENDPOINT.exists() and crate.exists() and shutil.which("rt"):
+        subprocess.run(["rt", "lib"], cwd=crate, capture_output=True)
+    for archive in (ENDPOINT, STATELESS):
         if not archive.exists():
             return None, f"no {archive.name}"
     flags = ["-Wall", "-Wextra", "-Wpedantic", "-Wconversion", "-Werror", "-g", "-O1"]
@@ -74,8 +73,7 @@ def build(folder):
     has = all(subprocess.run(tried, capture_output=True).returncode == 0
               for tried in (words, [folder / "empty"]))
     flags = " ".join(flags + (sanitized if has else []))
-    archives = (f"STATE={STATE}", f"ENDPOINT={ENDPOINT}", f"LIBRARY={STATELESS}",
-                f"SYSTEM={BESIDE}")
+    archives = (f"ENDPOINT={ENDPOINT}", f"LIBRARY={STATELESS}", f"SYSTEM={BESIDE}")
     values = (f"CC={' '.join(compiler())}", f"CFLAGS={flags}", f"OUT={folder}", *archives)
     subprocess.run(["make", "-s", "-C", TOP / "examples/c", *values, "udp"], check=True)
     build_helpers(folder)
@@ -86,7 +84,7 @@ def build_helpers(folder):
     """Builds the programs and the library of this folder's own."""
     parts = TOP / "examples/c"
     command = [*compiler(), "-O1", f"-I{TOP}/include", f"-I{parts}", *inlined()]
-    archives = (STATE, ENDPOINT, STATELESS, *BESIDE.split())
+    archives = (ENDPOINT, STATELESS, *BESIDE.split())
     wiped = (HERE / "wiped.c", parts / "heap.c", *archives, "-o", folder / "wiped")
     subprocess.run([*command, *wiped], check=True)
     for name in ("faults", "exhausted"):

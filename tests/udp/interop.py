@@ -443,7 +443,7 @@ def main():
         install()
     if IS_IN_C:
         subprocess.run(["make", "-s", "-C", harness.TOP / "examples/c", "udp",
-                        f"STATE={harness.STATE}", f"ENDPOINT={harness.ENDPOINT}",
+                        f"ENDPOINT={harness.ENDPOINT}",
                         f"LIBRARY={harness.STATELESS}", f"SYSTEM={harness.BESIDE}"], check=True)
     versions = {package: version(package) for package in PACKAGES}
     if versions["coturn"]:

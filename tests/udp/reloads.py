@@ -245,7 +245,7 @@ def bars(folder, servers):
     """The bars, on a server in C with optimization, and on the others as they are. Returns how many
     were missed."""
     plain, load, missed = folder / "plain", folder / "load", 0
-    values = ("CFLAGS=-O2", f"OUT={plain}", f"STATE={harness.STATE}", f"SYSTEM={harness.BESIDE}",
+    values = ("CFLAGS=-O2", f"OUT={plain}", f"SYSTEM={harness.BESIDE}",
               f"ENDPOINT={harness.ENDPOINT}", f"LIBRARY={harness.STATELESS}")
     subprocess.run(["make", "-s", "-C", harness.TOP / "examples/c", *values, "udp"], check=True)
     words = ("-O2", f"-I{harness.TOP}/include", *harness.inlined(),

@@ -1,7 +1,7 @@
 /* Looks for a password in the memory that was given back: a server's user is removed, and the heap
  * is searched. */
 #define _GNU_SOURCE
-#include "stunp_state.h"
+#include "stunp_endpoint.h"
 #include <stdio.h>
 #include <string.h>
 
@@ -34,17 +34,19 @@ static int copies(void) {
 }
 
 int main(void) {
-    stunp_server server = {0};
+    stunp_endpoint_server server = {0};
+    stunp_endpoint_users users = {0};
+    stunp_endpoint_server_settings settings = STUNP_INIT(stunp_endpoint_server_settings);
     char password[LENGTH];
+    settings.credentials = STUNP_SHORT_TERM;
     write_password(password);
-    if (stunp_server_new(&server, (const uint8_t *)"realm", 5) != 0) return 1;
-    if (stunp_server_add_user(&server, (const uint8_t *)"name", 4, (const uint8_t *)password,
-                              LENGTH)
-        != 0)
-        return 1;
+    if (stunp_endpoint_server_new(&server, &settings) != 0) return 1;
+    if (stunp_endpoint_users_new(&users, &server) != 0) return 1;
+    if (stunp_endpoint_users_add(&users, "name", 4, password, LENGTH) != 0) return 1;
     explicit_bzero(password, sizeof password);
     int held = copies();
-    stunp_server_free(&server);
+    stunp_endpoint_users_free(&users);
+    stunp_endpoint_server_free(&server);
     printf("%d copies while in use, %d later\n", held, copies());
     return 0;
 }

@@ -1,15 +1,15 @@
 """Writes the calls for C as plain Rust, for tools/export/export.py: `capi/src/calls` of what it
 writes.
 
-The crates `stun_numbers`, `stun_handles`, `stun_c`, `stun_state` and `stun_c_endpoint` are exported
-as the others, but for what a caller in C keeps: a handle, with its pointer, which
-`capi/src/handle.rs` has by hand. Their `extern "C"` functions become plain ones, and `border.rs`
-has those that C calls, where a slice is a pointer and a length (`capi/src/passed.rs`).
+The crates `stun_numbers`, `stun_handles`, `stun_c` and `stun_c_endpoint` are exported as the
+others, but for what a caller in C keeps: a handle, with its pointer, which `capi/src/handle.rs` has
+by hand. Their `extern "C"` functions become plain ones, and `border.rs` has those that C calls,
+where a slice is a pointer and a length (`capi/src/passed.rs`).
 """
 import re
 from pathlib import Path
 
-CRATES = ["stun_numbers", "stun_handles", "stun_c", "stun_state", "stun_c_endpoint"]
+CRATES = ["stun_numbers", "stun_handles", "stun_c", "stun_c_endpoint"]
 PLACES = {crate: f"crate::calls::{crate}" for crate in CRATES}
 CALL = re.compile(r'((?:^///[^\n]*\n)+)^#\[unsafe\(no_mangle\)\]\npub extern "C" fn '
                   r'(\w+)\(([^)]*)\)(?: -> (\w+))?', re.M)
@@ -52,8 +52,7 @@ def border_of(text, module):
 def write(out, exported, places, root):
     """Writes the folder of the calls."""
     calls = out / "capi" / "src" / "calls"
-    border = ("//! The calls that `include/stunp.h`, `include/stunp_state.h` and\n"
-              "//! `include/stunp_endpoint.h` declare.\n\n"
+    border = ("//! The calls that `include/stunp.h` and `include/stunp_endpoint.h` declare.\n\n"
               "use crate::calls::stun_c::header::Header;\n"
               "use crate::calls::stun_c::walk::Cursor;\n"
               "use crate::calls::stun_c_endpoint::client::event::{Dropped, Event};\n"
@@ -62,10 +61,8 @@ def write(out, exported, places, root):
               "use crate::calls::stun_c_endpoint::ice::told::{IceCheck, IceReceived};\n"
               "use crate::calls::stun_c_endpoint::received::Received;\n"
               "use crate::calls::stun_handles::address::Address;\n"
-              "use crate::calls::stun_state::agent::{Statistics, Timeouts};\n"
-              "use crate::calls::{stun_c, stun_c_endpoint, stun_state};\n"
+              "use crate::calls::{stun_c, stun_c_endpoint};\n"
               "use crate::handle::endpoint::EndpointHandle;\n"
-              "use crate::handle::state::StateHandle;\n"
               "use crate::kit::alloc::Global;\nuse crate::passed::{read, written};\n\n")
     for crate in CRATES:
         source = root / "crates" / crate / "src"

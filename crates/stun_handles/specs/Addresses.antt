@@ -1,7 +1,6 @@
 -- The addresses that callers pass and receive: 4 octets or 16 in network order, and a port.
 use Rattle.std.specs.Prelude.{ℕ, List, ◌++◌, take, replicate, ◌==◌}
 use Rattle.std.specs.Prelude.{if◌then◌else◌, Option, Some, None}
-use Rattle.std.specs.Option.{option_map}
 use Rattle.std.specs.Net.Addr.{segments_of, octets_of}
 use Rattle.std.specs.declared.net.socket_addr.SocketAddr.{SocketAddr}
 use Rattle.std.specs.declared.net.socket_addr.SocketAddr.TheVariants.{V4, V6}
@@ -32,13 +31,7 @@ abbrev pub caller_address : SocketAddr → Address
 caller_address (V4 a) = record { octets = a.ip.octets ++ replicate 12 0; port = a.port; length = 4 }
 caller_address (V6 a) = record { octets = octets_of a.ip.segments; port = a.port; length = 16 }
 
--- where a walk over addresses begins, as a caller passes it: at the first of all if the length is
--- 0; nothing if it is not an address
-abbrev pub start_told : Address → Option (Option SocketAddr)
-start_told a =
-    if a.length == 0 then Some None else option_map (λ address. Some address) (socket_address a)
-
--- where the walk continues, as a caller receives it: with length 0 at its end
+-- an address as a caller receives it: with the length 0 if there is none
 abbrev pub start_for : Option SocketAddr → Address
 start_for None = record { octets = replicate 16 0; port = 0; length = 0 }
 start_for (Some address) = caller_address address

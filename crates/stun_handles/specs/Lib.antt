@@ -4,8 +4,6 @@
 pub mod Addresses
 -- the numbers that calls return
 pub mod Numbers
--- the kinds of handles
-pub mod Kinds
 -- the stored keys of a user
 pub mod Keys
 -- what calls share: an address that may be invalid, and texts

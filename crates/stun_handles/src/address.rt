@@ -2,7 +2,7 @@
 
 ghost use Rattle.std.specs.Prelude.{◌≡◌, take, IfOk, IfErr, Some, None};
 ghost use Rattle.stun_handles.specs.Addresses.{caller_address, ipv4, ipv6};
-ghost use Rattle.stun_handles.specs.Addresses.{socket_address, start_for, start_told};
+ghost use Rattle.stun_handles.specs.Addresses.{socket_address, start_for};
 
 use std::net::{Ipv4Addr, Ipv6Addr, SocketAddr, SocketAddrV4, SocketAddrV6};
 use stun_numbers::refusal::Refusal;
@@ -52,22 +52,7 @@ impl Address {
         }
     }
 
-    /// Returns the address at which to begin a walk over addresses, or `None` if the length is 0.
-    /// The walk then begins at the first address. Fails with `BadArgument` if the length is not 0,
-    /// 4 or 16.
-    pub fn start(&self) -> Result<Option<SocketAddr>, Refusal>
-        ensures ok { IfOk result (λ start. start_told self.now ≡ Some start) }
-        ensures err { IfErr result (λ refusal. (start_told self.now ≡ None)
-            × (refusal ≡ Refusal.BadArgument)) }
-    {
-        if self.length == 0 {
-            return Ok(None);
-        }
-        Ok(Some(self.socket()?))
-    }
-
-    /// Converts the address at which a walk continues. If the walk has ended, the result has the
-    /// length 0.
+    /// Converts an address for a caller, or returns one of length 0 if there is none.
     pub fn of_start(start: Option<SocketAddr>) -> Address
         ensures { result ≡ start_for start }
     {

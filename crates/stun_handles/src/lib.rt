@@ -6,5 +6,4 @@ pub mod address;
 pub mod answers;
 pub mod handle;
 pub mod keys;
-pub mod kind;
 pub mod text;

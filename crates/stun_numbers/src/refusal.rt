@@ -57,8 +57,7 @@ pub enum Refusal {
     /// -22: at a server, the message is not sufficiently authenticated, and the server answers 401.
     /// At a client, the client cannot answer this 401.
     Unauthorized,
-    /// -23: the request is not well-formed. A server answers 400, or 438 in one case
-    /// (`stunp_state.h`).
+    /// -23: the request is not well-formed. A server answers 400.
     BadRequest,
     /// -24: the nonce is not the current one. A server answers 438.
     StaleNonce,
@@ -71,8 +70,7 @@ pub enum Refusal {
     /// -28: there is no key to sign with. At a server, the user was removed, or has no key for the
     /// client's algorithm. At an ICE agent, the credentials of the peer are not known yet.
     CannotSign,
-    /// -29: the handle has a value of another kind, or a user who was prepared for another realm or
-    /// for other algorithms.
+    /// -29: the handle has a value of another kind.
     WrongHandle,
 }
 

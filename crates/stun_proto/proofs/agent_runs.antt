@@ -54,5 +54,3 @@ pub mod AgentLoopLemmas
 pub mod Dues
 -- a request in whatever calls its user makes: each of its steps comes in time
 pub mod AnyCalls
--- the calls of a client's loop are such calls
-pub mod ClientCalls

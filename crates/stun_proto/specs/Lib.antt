@@ -62,8 +62,6 @@ pub mod RunLaws
 pub mod AgentLoop
 -- sentence 3: an agent in whatever loop its user has, call by call
 pub mod AnyLoop
--- the loop of a client that waits for datagrams
-pub mod ClientLoop
 -- what the steps of a run add to the counters of its agent
 pub mod Counters
 -- a run that stops because an allocation failed, and how it is continued

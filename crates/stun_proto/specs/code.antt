@@ -1,7 +1,6 @@
 -- Definitions that no clause of a public call cites: encodings of models, views of the code's own
 -- structs, steps of the code.
 pub mod Calls
-pub mod ClientCalls
 pub mod FirstAnswers
 pub mod Meetings
 pub mod Sides

@@ -1,5 +1,5 @@
-//! STUN for programs in C, on top of the exported sources: the functions that `include/stunp.h`,
-//! `include/stunp_state.h` and `include/stunp_endpoint.h` declare, and no others.
+//! STUN for programs in C, on top of the exported sources: the functions that `include/stunp.h`
+//! and `include/stunp_endpoint.h` declare, and no others.
 //!
 //! `make lib` builds `libstunp.a` and `libstunp.so` from this crate. They need `core`, the
 //! functions of the system that `memory.rs` and `panic.rs` name, and `memcpy`, `memmove`, `memset`

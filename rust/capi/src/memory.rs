@@ -1,5 +1,5 @@
 //! Allocates with the functions that the program passes (`stunp_set_memory`), or else with the
-//! three functions that the program defines (`include/stunp_state.h`), or else with malloc.
+//! three functions that the program defines (`include/stunp_endpoint.h`), or else with malloc.
 //!
 //! The library refers to the three functions weakly, so a program can be linked without them. If
 //! the program defines them, they are found whether it is linked before or after the library, and

@@ -3,7 +3,7 @@
  *
  * harmless: an allocation failed
  * named: stunp_set_memory: one of the three is null */
-#include "stunp_state.h"
+#include "stunp_endpoint.h"
 #include <stdio.h>
 #include <stdlib.h>
 
@@ -16,7 +16,9 @@ rattle_allocation rattle_alloc(size_t length, size_t alignment) {
 void rattle_dealloc(void *at) { free(at); }
 
 int main(void) {
-    stunp_client client = {0};
-    puts(stunp_strerror(stunp_client_new(&client)));
+    stunp_endpoint_server server = {0};
+    stunp_endpoint_server_settings settings = STUNP_INIT(stunp_endpoint_server_settings);
+    settings.credentials = STUNP_NO_CREDENTIALS;
+    puts(stunp_strerror(stunp_endpoint_server_new(&server, &settings)));
     return 0;
 }

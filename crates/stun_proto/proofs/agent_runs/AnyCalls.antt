@@ -41,7 +41,7 @@ use Rattle.stun_proto.proofs.agent_runs.OwnSteps.{own_nil, own_sent, own_other_s
 use Rattle.stun_proto.proofs.agent_runs.OwnSteps.{own_other_ended}
 
 -- a poll that ends nothing leaves the agent as it was
-pub ended_none : (now : ℕ) (a : Agent) → ended_by_poll now a ≡ None → after_poll now a ≡ a
+ended_none : (now : ℕ) (a : Agent) → ended_by_poll now a ≡ None → after_poll now a ≡ a
 ended_none now a f =
     ap (λ (o : Option (ℕ × Transaction)).
     option_map_or

@@ -67,7 +67,7 @@ fn end_all<A: Memory>(agent: &mut StunAgent<A>, now: Instant, log: &mut StepLog<
 
 /// Makes one call of `poll_transmit`. If a request must be sent, adds the step to `log` and returns
 /// `true`. Otherwise returns `false`.
-pub(crate) fn send_one<A: Memory>(
+fn send_one<A: Memory>(
     alloc: A,
     agent: &mut StunAgent<A>,
     now: Instant,
@@ -86,7 +86,7 @@ pub(crate) fn send_one<A: Memory>(
 
 /// Makes one call of `poll`. If a request ended, adds the step to `log` and returns `None`.
 /// Otherwise returns the time in `WaitUntil`.
-pub(crate) fn end_one<A: Memory>(
+fn end_one<A: Memory>(
     agent: &mut StunAgent<A>,
     now: Instant,
     log: &mut StepLog<A>,

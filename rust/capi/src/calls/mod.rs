@@ -18,5 +18,3 @@ pub(crate) mod stun_c_endpoint;
 pub(crate) mod stun_handles;
 #[deny(unsafe_code)]
 pub(crate) mod stun_numbers;
-#[deny(unsafe_code)]
-pub(crate) mod stun_state;

@@ -1592,10 +1592,10 @@ typedef enum stunp_ice_candidate_kind {
 /* Returns the priority of a candidate (section 5.1.2.1), or, if `kind` is STUNP_ICE_PEER_REFLEXIVE,
  * the value of PRIORITY in a check that is sent from the candidate (section 7.1.1). `preference`
  * ranks the addresses of this side: use 65535 for the best address, or for the only address.
- * `component` is the number of the component, from 1 on. */
+ * `component` is the number of the component, from 1 to 256. A larger number counts as 256. */
 STUNP_USE_RESULT
 STUNP_INLINED uint32_t stunp_ice_priority(stunp_ice_candidate_kind kind, uint16_t preference,
-                                          uint8_t component);
+                                          uint16_t component);
 
 /* Returns the priority of a pair (section 6.1.2.3). `controlling` is the priority of the
  * controlling agent's candidate, and `controlled` is the priority of the controlled agent's
@@ -2504,7 +2504,7 @@ STUNP_INLINED bool stunp_ice_checks_cancel(stunp_ice_checks *checks, const uint8
  * end with a zero byte.
  *
  *   kind               how the candidate was found
- *   component          the number of the component, from 1 on
+ *   component          the number of the component, from 1 to 256
  *   has_related        whether the line has the related address
  *   priority           the priority, from 1 to 2147483647 (stunp_ice_priority)
  *   foundation         1 to 32 letters, digits, `+` and `/`, equal for candidates with the same
@@ -2519,7 +2519,7 @@ STUNP_INLINED bool stunp_ice_checks_cancel(stunp_ice_checks *checks, const uint8
  *                      candidate */
 typedef struct {
     stunp_ice_candidate_kind kind;
-    uint8_t component;
+    uint16_t component;
     bool has_related;
     uint32_t priority;
     const char *foundation;
@@ -2536,7 +2536,7 @@ typedef enum stunp_ice_line {
     STUNP_ICE_LINE_NO_CANDIDATE = 1,  /* the line does not begin with `candidate:` and the eight
                                        * words of a candidate, or its foundation is malformed */
     STUNP_ICE_LINE_NOT_UDP = 2,       /* the transport is not UDP */
-    STUNP_ICE_LINE_NO_COMPONENT = 3,  /* the component is not a number from 1 to 255 */
+    STUNP_ICE_LINE_NO_COMPONENT = 3,  /* the component is not a number from 1 to 256 */
     STUNP_ICE_LINE_NO_PRIORITY = 4,   /* the priority is not a number from 1 to 2147483647 */
     STUNP_ICE_LINE_NO_ADDRESS = 5,    /* the address is not an IP address with a port: it may be a
                                        * name that ends with `.local`, with which browsers hide

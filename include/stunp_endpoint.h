@@ -638,10 +638,12 @@ typedef enum stunp_ice_outcome {
     /* If `kind` is STUNP_IS_RESPONSE (the peer has answered one of your checks): */
     STUNP_ICE_VALID = 4,          /* the check succeeded, and the pair is valid. The peer saw the
                                    * check arrive from `mapped` */
-    STUNP_ICE_CONFLICT = 5,       /* the peer has the role that the check states, and keeps it. This
-                                   * agent has switched to the other role, or already had the other
-                                   * role (`switched` is then false). Set a new random tie-breaker,
-                                   * and send a new check (section 7.2.5.1) */
+    STUNP_ICE_CONFLICT = 5,       /* the peer has the role that the check states, and keeps it. Set
+                                   * a new random tie-breaker (section 16.1). If `switched` is true,
+                                   * this agent has switched to the other role: check the pair again
+                                   * (section 7.2.5.1). Otherwise it had already switched: check the
+                                   * pair again only if no check of the pair was started after the
+                                   * switch */
     STUNP_ICE_ERROR = 6,          /* the check failed with the error `code` */
     STUNP_ICE_OTHER_PATH = 7,     /* the check failed, because its answer did not come from the
                                    * address to which the check was sent, or, with stunp_ice_checks,

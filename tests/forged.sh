@@ -1,11 +1,12 @@
 #!/bin/sh
 # Plays forged datagrams against endpoint::Client of the exported crate, after `make export`. The
 # last line counts the faults.
-#   tests/forged.sh            a share of all cases of tests/forged: XX attacked
-#                              requests in XX of the processor
-#   tests/forged.sh --all      each case, in XX of the processor
-#   tests/forged.sh --all I/N  the I-th of N parts of them, counted from 1
-# THREADS says on how many threads, unless set on all processors with --all, else on half of them.
+#   tests/forged.sh            a share of the cases of tests/forged, some 460,000 attacked requests
+#                              in half a minute of the processor
+#   tests/forged.sh --all      all 186 million cases: some two hours of the processor, shared by
+#                              all processors
+#   tests/forged.sh --all I/N  the I-th of N parts of all cases, for I from 1 to N
+# THREADS says on how many threads; by default on half of the processors, with --all on all of them.
 set -eu
 cd "$(dirname "$0")/.."
 usage() {
@@ -18,7 +19,8 @@ case "$#:${1-}" in
     1:--all | 2:--all)
         part=${2:-1/1} threads=$(nproc)
         single=${part#*/} pairs=${part#*/} first=$((${part%/*} - 1))
-        [ "$part" = "$((first + 1))/$pairs" ] && [ 0 -le "$first" ] && [ "$first" -lt "$pairs" ] || usage
+        [ "$part" = "$((first + 1))/$single" ] || usage
+        [ 0 -le "$first" ] && [ "$first" -lt "$single" ] || usage
         ;;
     *) usage ;;
 esac

@@ -576,5 +576,7 @@ pub enum Input<'a> {
     ///   must come from that address instead.)
     NotOurs,
     /// A response to a request of this client. The response was dropped, and the request continues.
+    /// If the response is an error, [`Client::dropped`](super::Client::dropped) of the request has
+    /// its code ([`Drops::code`]).
     Dropped(DropReason),
 }

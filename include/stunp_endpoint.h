@@ -690,10 +690,12 @@ typedef enum stunp_ice_outcome {
     /* If `kind` is STUNP_IS_RESPONSE (the peer has answered one of your checks): */
     STUNP_ICE_VALID = 4,          /* the check succeeded, and the pair is valid. The peer saw the
                                    * check arrive from `mapped` */
-    STUNP_ICE_CONFLICT = 5,       /* the peer has the role that the check states, and keeps it. This
-                                   * agent has switched to the other role, or already had the other
-                                   * role (`switched` is then false). Set a new random tie-breaker,
-                                   * and send a new check (section 7.2.5.1) */
+    STUNP_ICE_CONFLICT = 5,       /* the peer has the role that the check states, and keeps it. Set
+                                   * a new random tie-breaker (section 16.1). If `switched` is true,
+                                   * this agent has switched to the other role: check the pair again
+                                   * (section 7.2.5.1). Otherwise it had already switched: check the
+                                   * pair again only if no check of the pair was started after the
+                                   * switch */
     STUNP_ICE_ERROR = 6,          /* the check failed with the error `code` */
     STUNP_ICE_OTHER_PATH = 7,     /* the check failed, because its answer did not come from the
                                    * address to which the check was sent, or, with stunp_ice_checks,
@@ -1644,10 +1646,10 @@ typedef enum stunp_ice_candidate_kind {
 /* Returns the priority of a candidate (section 5.1.2.1), or, if `kind` is STUNP_ICE_PEER_REFLEXIVE,
  * the value of PRIORITY in a check that is sent from the candidate (section 7.1.1). `preference`
  * ranks the addresses of this side: use 65535 for the best address, or for the only address.
- * `component` is the number of the component, from 1 on. */
+ * `component` is the number of the component, from 1 to 256. A larger number counts as 256. */
 STUNP_USE_RESULT
 STUNP_INLINED uint32_t stunp_ice_priority(stunp_ice_candidate_kind kind, uint16_t preference,
-                                          uint8_t component);
+                                          uint16_t component);
 
 /* Returns the priority of a pair (section 6.1.2.3). `controlling` is the priority of the
  * controlling agent's candidate, and `controlled` is the priority of the controlled agent's
@@ -2556,7 +2558,7 @@ STUNP_INLINED bool stunp_ice_checks_cancel(stunp_ice_checks *checks, const uint8
  * end with a zero byte.
  *
  *   kind               how the candidate was found
- *   component          the number of the component, from 1 on
+ *   component          the number of the component, from 1 to 256
  *   has_related        whether the line has the related address
  *   priority           the priority, from 1 to 2147483647 (stunp_ice_priority)
  *   foundation         1 to 32 letters, digits, `+` and `/`, equal for candidates with the same
@@ -2571,7 +2573,7 @@ STUNP_INLINED bool stunp_ice_checks_cancel(stunp_ice_checks *checks, const uint8
  *                      candidate */
 typedef struct {
     stunp_ice_candidate_kind kind;
-    uint8_t component;
+    uint16_t component;
     bool has_related;
     uint32_t priority;
     const char *foundation;
@@ -2588,7 +2590,7 @@ typedef enum stunp_ice_line {
     STUNP_ICE_LINE_NO_CANDIDATE = 1,  /* the line does not begin with `candidate:` and the eight
                                        * words of a candidate, or its foundation is malformed */
     STUNP_ICE_LINE_NOT_UDP = 2,       /* the transport is not UDP */
-    STUNP_ICE_LINE_NO_COMPONENT = 3,  /* the component is not a number from 1 to 255 */
+    STUNP_ICE_LINE_NO_COMPONENT = 3,  /* the component is not a number from 1 to 256 */
     STUNP_ICE_LINE_NO_PRIORITY = 4,   /* the priority is not a number from 1 to 2147483647 */
     STUNP_ICE_LINE_NO_ADDRESS = 5,    /* the address is not an IP address with a port: it may be a
                                        * name that ends with `.local`, with which browsers hide

@@ -569,8 +569,9 @@ STUNP_INLINED int64_t stunp_ice_find_sender(const uint8_t *message, size_t lengt
 }
 
 STUNP_INLINED uint32_t stunp_ice_priority(stunp_ice_candidate_kind kind, uint16_t preference,
-                                          uint8_t component) {
-    return ((uint32_t)kind << 24) + ((uint32_t)preference << 8) + (256 - (uint32_t)component);
+                                          uint16_t component) {
+    uint32_t last = component < 256 ? 256 - (uint32_t)component : 0;
+    return ((uint32_t)kind << 24) + ((uint32_t)preference << 8) + last;
 }
 
 STUNP_INLINED uint64_t stunp_ice_pair_priority(uint32_t controlling, uint32_t controlled) {

@@ -374,13 +374,13 @@ STUNP_INLINED stunp_ice_line stunp_ice_candidate_read(stunp_ice_candidate *candi
     if (words[2].length != 3 || stunp_ice_lower(words[2].at[0]) != 'u'
         || stunp_ice_lower(words[2].at[1]) != 'd' || stunp_ice_lower(words[2].at[2]) != 'p')
         return STUNP_ICE_LINE_NOT_UDP;
-    if (!stunp_ice_number(words[1], 255, &component) || component == 0)
+    if (!stunp_ice_number(words[1], 256, &component) || component == 0)
         return STUNP_ICE_LINE_NO_COMPONENT;
     if (!stunp_ice_number(words[3], 0x7fffffff, &priority) || priority == 0)
         return STUNP_ICE_LINE_NO_PRIORITY;
     if (!stunp_ice_address(words[4], words[5], &read.address)) return STUNP_ICE_LINE_NO_ADDRESS;
     if (!stunp_ice_kind(words[7], &read.kind)) return STUNP_ICE_LINE_NO_KIND;
-    read.component = (uint8_t)component, read.priority = priority;
+    read.component = (uint16_t)component, read.priority = priority;
     read.foundation = words[0].at, read.foundation_length = words[0].length;
     stunp_ice_take_related(&rest, &read);
     while (rest.length > 0 && stunp_ice_is_space(*rest.at)) rest.at++, rest.length--;
@@ -467,8 +467,9 @@ static inline void stunp_ice_put_address(stunp_ice_text *text, const stunp_addre
 STUNP_INLINED int64_t stunp_ice_candidate_write(const stunp_ice_candidate *candidate, char *out,
                                                 size_t room) {
     const char *kind = stunp_ice_kind_name(candidate->kind);
-    if (kind == NULL || candidate->component == 0 || candidate->priority == 0
-        || candidate->priority > 0x7fffffff || !stunp_ice_is_address(&candidate->address)
+    if (kind == NULL || candidate->component == 0 || candidate->component > 256
+        || candidate->priority == 0 || candidate->priority > 0x7fffffff
+        || !stunp_ice_is_address(&candidate->address)
         || (candidate->has_related && !stunp_ice_is_address(&candidate->related))
         || !stunp_ice_is_foundation(candidate->foundation, candidate->foundation_length))
         return STUNP_BAD_ARGUMENT;

@@ -13,6 +13,7 @@
 //! [`endpoint::ShortTermServer`]: endpoint::ShortTermServer
 //! [`endpoint::ice`]: mod@endpoint::ice
 //! [`endpoint::ice::Candidate`]: endpoint::ice::Candidate
+//! [`endpoint::ice::MdnsCandidate`]: endpoint::ice::MdnsCandidate
 //! [`endpoint::ice::Check`]: endpoint::ice::Check
 //! [`endpoint::ice::Checker`]: endpoint::ice::Checker
 //! [`endpoint::ice::Checks`]: endpoint::ice::Checks

@@ -10,7 +10,8 @@ use core::fmt;
 /// must be unpredictable, and every new request needs a new one. [`Message::builder_request`] makes
 /// a random ID, and [`Message::transaction_id`] returns the ID of a message.
 ///
-/// It is displayed in hexadecimal, for example as `0x0102030405060708090a0b0c`.
+/// It is displayed in hexadecimal, for example as `0x0102030405060708090a0b0c`, and `{:?}` writes
+/// `TransactionId(0x0102030405060708090a0b0c)`.
 ///
 /// [`Message::builder_request`]: crate::types::message::Message#method.builder_request
 /// [`Message::transaction_id`]: crate::types::message::Message::transaction_id
@@ -23,8 +24,9 @@ use core::fmt;
 /// let id = TransactionId::from([1, 2, 3, 4, 5, 6, 7, 8, 9, 10, 11, 12]);
 /// assert_eq!(id.as_u128(), 0x0102_0304_0506_0708_090a_0b0c);
 /// assert_eq!(id.to_string(), "0x0102030405060708090a0b0c");
+/// assert_eq!(format!("{id:?}"), "TransactionId(0x0102030405060708090a0b0c)");
 /// ```
-#[derive(Debug, Clone, Copy, PartialEq, Eq, PartialOrd, Ord, Hash)]
+#[derive(Clone, Copy, PartialEq, Eq, PartialOrd, Ord, Hash)]
 pub struct TransactionId(pub(crate) proved::TransactionId);
 
 impl TransactionId {
@@ -87,5 +89,12 @@ impl From<[u8; 12]> for TransactionId {
 impl fmt::Display for TransactionId {
     fn fmt(&self, f: &mut fmt::Formatter<'_>) -> fmt::Result {
         write!(f, "{:#026x}", self.as_u128())
+    }
+}
+
+/// Writes the ID in hexadecimal, as [`Display`](fmt::Display) does.
+impl fmt::Debug for TransactionId {
+    fn fmt(&self, f: &mut fmt::Formatter<'_>) -> fmt::Result {
+        write!(f, "TransactionId({self})")
     }
 }

@@ -681,6 +681,8 @@ static void around_checks(void) {
     want("host", stunp_ice_priority(STUNP_ICE_HOST, 65535, 1), 2130706431);
     want("reflexive", stunp_ice_priority(STUNP_ICE_PEER_REFLEXIVE, 65535, 1), 1862270975);
     want("relayed", stunp_ice_priority(STUNP_ICE_RELAYED, 0, 255), 1);
+    want("the last component", stunp_ice_priority(STUNP_ICE_RELAYED, 1, 256), 256);
+    want("none after it", stunp_ice_priority(STUNP_ICE_RELAYED, 1, 257), 256);
     want("pair", stunp_ice_pair_priority(3, 2) == (((uint64_t)2 << 32) | 7), true);
     want("pair", stunp_ice_pair_priority(2, 3) == (((uint64_t)2 << 32) | 6), true);
     want("pair", stunp_ice_pair_priority(3, 3) == (((uint64_t)3 << 32) | 6), true);

@@ -341,6 +341,11 @@ static void candidates(void) {
          "rport 9 ufrag x"), STUNP_ICE_LINE_READ);
     want("no related", candidate.has_related, false);
     is_word("extensions", candidate.extensions, candidate.extensions_length, "ufrag x");
+    const char *const last = "candidate:1 256 udp 1 192.0.2.1 5 typ host";
+    want("the last component", read_line(&candidate, last), STUNP_ICE_LINE_READ);
+    want("component", candidate.component, 256);
+    want("write", stunp_ice_candidate_write(&candidate, line, sizeof line), (int64_t)strlen(last));
+    want("line", strcmp(line, last), 0);
     /* Each refusal. The first that applies is returned. */
     const struct { const char *line; stunp_ice_line why; } rows[] = {
         {"", STUNP_ICE_LINE_NO_CANDIDATE}, {"candidate", STUNP_ICE_LINE_NO_CANDIDATE},
@@ -351,7 +356,7 @@ static void candidates(void) {
          STUNP_ICE_LINE_NO_CANDIDATE},
         {"candidate:1 0 tcp 1 192.0.2.1 5 typ host", STUNP_ICE_LINE_NOT_UDP},
         {"candidate:1 0 udp 0 192.0.2.1 5 typ host", STUNP_ICE_LINE_NO_COMPONENT},
-        {"candidate:1 256 udp 0 192.0.2.1 5 typ host", STUNP_ICE_LINE_NO_COMPONENT},
+        {"candidate:1 257 udp 0 192.0.2.1 5 typ host", STUNP_ICE_LINE_NO_COMPONENT},
         {"candidate:1 +1 udp 0 192.0.2.1 5 typ host", STUNP_ICE_LINE_NO_COMPONENT},
         {"candidate:1 1 udp 0 x 5 typ host", STUNP_ICE_LINE_NO_PRIORITY},
         {"candidate:1 1 udp 2147483648 x 5 typ host", STUNP_ICE_LINE_NO_PRIORITY},
@@ -379,6 +384,8 @@ static void candidates(void) {
     candidate.kind = (stunp_ice_candidate_kind)1;
     want("kind", stunp_ice_candidate_write(&candidate, line, 99), STUNP_BAD_ARGUMENT);
     candidate = good, candidate.component = 0;
+    want("component", stunp_ice_candidate_write(&candidate, line, 99), STUNP_BAD_ARGUMENT);
+    candidate.component = 257;
     want("component", stunp_ice_candidate_write(&candidate, line, 99), STUNP_BAD_ARGUMENT);
     candidate = good, candidate.priority = 0;
     want("priority", stunp_ice_candidate_write(&candidate, line, 99), STUNP_BAD_ARGUMENT);

@@ -268,11 +268,35 @@ pub fn all() -> Vec<Forgery> {
     all
 }
 
+/// Those of which every pair is played in each run: challenges that differ only in whether they
+/// have the nonce that the server sends now or the one that it sent before.
+pub fn renewals() -> Vec<Forgery> {
+    let (realm, list, signature) = (Realm::Same, List::Same, Signature::None);
+    [401, 438]
+        .into_iter()
+        .flat_map(|code| [Nonce::Current, Nonce::Former].map(|nonce| (code, nonce)))
+        .map(|(code, nonce)| Forgery {
+            code,
+            realm,
+            nonce,
+            list,
+            signature,
+        })
+        .collect()
+}
+
 /// Those of which two are forged: unsigned ones.
 pub fn some() -> Vec<Forgery> {
     let (signature, mut some) = (Signature::None, Vec::new());
     for code in [401, 438] {
-        for nonce in [Nonce::Current, Nonce::Plain, Nonce::Made(0), Nonce::Made(3)] {
+        for nonce in [
+            Nonce::Current,
+            Nonce::Former,
+            Nonce::OfAnother,
+            Nonce::Plain,
+            Nonce::Made(0),
+            Nonce::Made(3),
+        ] {
             for realm in [Realm::Same, Realm::Other] {
                 for list in [
                     List::Same,

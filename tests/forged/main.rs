@@ -1,7 +1,7 @@
 //! Plays forged datagrams against `endpoint::Client`, at servers of all settings:
 //!
 //! ```text
-//! forged SINGLE PAIRS THREADS
+//! forged SINGLE PAIRS FIRST THREADS
 //! ```
 //!
 //! The servers are those of `endpoint::Server`, and strict ones that answer as coturn does. An
@@ -9,7 +9,8 @@
 //! in answer to the current message or to the one before it. One answer of the server may be lost,
 //! of two the newer one may arrive first, or each may arrive twice. Then he adds two datagrams, of
 //! fewer kinds, and no answer is lost. SINGLE and PAIRS say which share of these cases is played:
-//! each n-th, so all if it is 1.
+//! each n-th from the one with the number FIRST on, so all if n is 1 and FIRST is 0. Before these
+//! it plays all cases with two challenges that have the server's nonces of now and of before.
 //!
 //! It counts the requests that did not succeed, those of them that ended by an unsigned response,
 //! the clients whose next request did not succeed, which nobody attacks, and what the server
@@ -29,11 +30,19 @@ use cases::{Cases, services};
 use std::process::ExitCode;
 use tally::Tally;
 
-/// Plays each n-th case, on some threads.
-fn play(cases: &Cases, share: usize, threads: usize) -> [Tally; 2] {
-    let played = |begin: usize| {
+/// Which cases are played: each n-th, from this one on.
+#[derive(Clone, Copy)]
+struct Share {
+    each: usize,
+    first: usize,
+}
+
+/// Plays a share of the cases, on some threads.
+fn play(cases: &Cases, share: Share, threads: usize) -> [Tally; 2] {
+    let played = |thread: usize| {
         let (services, mut tallies) = (services(), <[Tally; 2]>::default());
-        for number in (begin * share..cases.count()).step_by(share * threads) {
+        let first = share.first + thread * share.each;
+        for number in (first..cases.count()).step_by(share.each * threads) {
             cases.play(&services, number, &mut tallies);
         }
         tallies
@@ -41,7 +50,7 @@ fn play(cases: &Cases, share: usize, threads: usize) -> [Tally; 2] {
     let mut sums = <[Tally; 2]>::default();
     std::thread::scope(|scope| {
         let running: Vec<_> = (0..threads)
-            .map(|begin| scope.spawn(move || played(begin)))
+            .map(|thread| scope.spawn(move || played(thread)))
             .collect();
         for thread in running {
             for (sum, tally) in sums.iter_mut().zip(thread.join().expect("a thread")) {
@@ -53,11 +62,9 @@ fn play(cases: &Cases, share: usize, threads: usize) -> [Tally; 2] {
 }
 
 /// Plays the cases, prints what was counted, and returns the faults.
-fn faults(title: &str, cases: &Cases, share: usize, threads: usize) -> u64 {
-    println!(
-        "{title}: {} cases, of which each {share}. is played",
-        cases.count()
-    );
+fn faults(title: &str, cases: &Cases, share: Share, threads: usize) -> u64 {
+    let (count, Share { each, first }) = (cases.count(), share);
+    println!("{title}: {count} cases, of which each {each}. is played, from {first} on");
     let mut faults = 0;
     for (accepts_unsigned, tally) in [false, true].into_iter().zip(play(cases, share, threads)) {
         let which = if accepts_unsigned {
@@ -76,14 +83,18 @@ fn main() -> ExitCode {
     let words = std::env::args()
         .skip(1)
         .map(|word| word.parse().expect("a number"));
-    let [single, pairs, threads] = words.collect::<Vec<usize>>()[..] else {
-        panic!("usage: forged SINGLE PAIRS THREADS");
+    let [single, pairs, first, threads] = words.collect::<Vec<usize>>()[..] else {
+        panic!("usage: forged SINGLE PAIRS FIRST THREADS");
     };
     let services = services();
+    let renewals = Cases::pairs(&services, forgery::renewals());
     let one = Cases::single(&services, forgery::all());
     let two = Cases::pairs(&services, forgery::some());
-    let found = faults("one forged datagram", &one, single, threads)
-        + faults("two forged datagrams", &two, pairs, threads);
+    let share = |each| Share { each, first };
+    let all = Share { each: 1, first: 0 };
+    let found = faults("two challenges about a renewal", &renewals, all, threads)
+        + faults("one forged datagram", &one, share(single), threads)
+        + faults("two forged datagrams", &two, share(pairs), threads);
     println!("forged: {found} faults");
     ExitCode::from(u8::from(found > 0))
 }

@@ -102,8 +102,13 @@ impl Outcome {
                     .any(|one| one.1 == FORGED_ADDRESS);
                 has_forged || response.signed_by().is_none()
             }
-            Err(RequestError::Unauthorized | RequestError::TimedOut(_)) => false,
-            Err(_) => true,
+            Err(
+                RequestError::Refused(_)
+                | RequestError::Redirected(_)
+                | RequestError::NotUnderstood(_)
+                | RequestError::MalformedResponse,
+            ) => true,
+            Err(_) => false, // the client itself gave up
         }
     }
 }

@@ -147,10 +147,11 @@ pub enum Outcome {
     /// 8445, section 7.2.5.3.1).
     Valid(Mapped),
     /// The peer has the role in which this agent sent the check, and does not switch. This agent
-    /// now has the opposite role. Set a new tie-breaker, and send a new check (section 7.2.5.1).
+    /// now has the opposite role. Set a new tie-breaker (section 16.1).
     RoleConflict {
-        /// Whether this agent has switched its role because of this answer. If not, it already had
-        /// the opposite role.
+        /// Whether this agent has switched its role because of this answer. If it has, check the
+        /// pair again (section 7.2.5.1). If it has not, it had already switched, and the pair needs
+        /// another check only if no check of the pair was started after the switch.
         switched: bool,
     },
     /// The check failed.

@@ -90,7 +90,8 @@ impl Response {
     /// It is `None` if `poll` has returned the message more than once, because it is then unknown
     /// which transmission the server has answered (RFC 6298, section 3). It is also `None` if the
     /// client has sent another message of the request after this message, or has made this message
-    /// the current one again.
+    /// the current one again. And it is `None` if `receive` was not passed a later time than that
+    /// `poll`, because the clock then stood still or went back, and has not measured anything.
     ///
     /// # Examples
     ///
@@ -472,7 +473,8 @@ pub(super) fn result_of(ended: End<Global>) -> Result<Response, RequestError> {
         ended::RequestEnd::Cancelled => return Err(RequestError::Cancelled),
     };
     let bytes = ended.response.into_std();
-    let round_trip = ended.round_trip;
+    // No time has passed if the clock stood still or went back, so it has measured nothing.
+    let round_trip = ended.round_trip.filter(|trip| !trip.is_zero());
     let response = Response { bytes, signed_by, round_trip };
     Err(match outcome {
         Outcome::Success => return Ok(response),
@@ -574,5 +576,7 @@ pub enum Input<'a> {
     ///   must come from that address instead.)
     NotOurs,
     /// A response to a request of this client. The response was dropped, and the request continues.
+    /// If the response is an error, [`Client::dropped`](super::Client::dropped) of the request has
+    /// its code ([`Drops::code`]).
     Dropped(DropReason),
 }

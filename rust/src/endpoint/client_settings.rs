@@ -175,15 +175,19 @@ impl Retransmission {
     /// - `last`: the time from the last transmission to the end of the request (Rm times RTO). It
     ///   does not depend on `first`.
     ///
+    /// Each of the three times is at least 1 ms: a shorter one counts as 1 ms, so that the client
+    /// waits after each transmission, even if all times are zero.
+    ///
     /// The default is 500 ms, no bound, 7 transmissions and 8 s (RFC 8489, section 6.2.1): the
     /// message is sent after 0, 0.5, 1.5, 3.5, 7.5, 15.5 and 31.5 s, and the request ends after
     /// 39.5 s.
     pub fn new(first: Duration, most: Duration, sends: u32, last: Duration) -> Retransmission {
+        let shortest = Duration::from_millis(1);
         Retransmission {
-            first,
-            most,
+            first: first.max(shortest),
+            most: most.max(shortest),
             sends,
-            last,
+            last: last.max(shortest),
         }
     }
 

@@ -184,7 +184,9 @@ mod consent;
 pub use crate::exported::stun_ice::checker::{BuildError, CheckError};
 pub use crate::exported::stun_ice::received::{Judged, Refusal};
 pub use crate::exported::stun_ice::role::Role;
-pub use candidate::{Candidate, CandidateError, CandidateKind, pair_priority, priority};
+pub use candidate::{
+    Candidate, CandidateError, CandidateKind, MdnsCandidate, pair_priority, priority,
+};
 pub use checks::{Checks, ChecksInput, ChecksOutput, EndedCheck, NewCheck, NewCheckError};
 pub use consent::{Consent, ConsentStep};
 
@@ -701,11 +703,13 @@ pub enum Outcome {
         mapped: SocketAddr,
     },
     /// The peer has the role that the check states for this agent, and does not switch. This agent
-    /// now has the opposite role. Set a new tie-breaker, and send a new check (RFC 8445, section
-    /// 7.2.5.1).
+    /// now has the opposite role. Set a new tie-breaker (RFC 8445, section 16.1).
     RoleConflict {
-        /// Whether this agent has switched its role because of this answer. If not, it already had
-        /// the opposite role.
+        /// Whether this agent has switched its role because of this answer. If it has, check the
+        /// pair again (RFC 8445, section 7.2.5.1). If it has not, the answer is late: this agent
+        /// had already switched, because of a check of the peer or of another answer, and the
+        /// conflict is over. The pair then needs another check only if no check of the pair was
+        /// started after the switch.
         switched: bool,
     },
     /// The check failed.
@@ -729,7 +733,12 @@ impl fmt::Display for Outcome {
     fn fmt(&self, f: &mut fmt::Formatter<'_>) -> fmt::Result {
         match self {
             Outcome::Valid { mapped } => write!(f, "the pair is valid, seen from {mapped}"),
-            Outcome::RoleConflict { .. } => f.write_str("both agents have the same role"),
+            Outcome::RoleConflict { switched: true } => {
+                f.write_str("both agents had the same role, and this agent has switched")
+            }
+            Outcome::RoleConflict { switched: false } => {
+                f.write_str("both agents had the same role, before this agent switched")
+            }
             Outcome::Failed(failure) => write!(f, "the check failed: {failure}"),
         }
     }

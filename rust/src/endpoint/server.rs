@@ -147,6 +147,14 @@ impl LongTerm {
     /// [`OpenServer`](super::OpenServer) that answers Binding requests. A signed Binding request is
     /// judged like any other request.
     ///
+    /// A [`Client`](super::Client) with credentials sends its first request unsigned, and drops a
+    /// response to it that is not signed ([`NotVerified`](super::DropReason::NotVerified)). So at
+    /// such a server its Binding request is answered each time it is sent, and still ends as
+    /// [`TimedOut`](super::RequestError::TimedOut), by default after 39.5 s. Send the Binding
+    /// request of such a client with
+    /// [`RequestOptions::unsigned`](super::RequestOptions::unsigned): the client then accepts the
+    /// unsigned response.
+    ///
     /// # Examples
     ///
     /// ```

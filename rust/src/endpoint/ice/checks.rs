@@ -266,7 +266,8 @@ pub struct EndedCheck {
     /// The address of this agent from which the check was sent.
     pub from: SocketAddr,
     /// How the answer ends the check. After [`Outcome::RoleConflict`], set a new tie-breaker
-    /// ([`Checker::set_tie_breaker`]), and start another check on the pair.
+    /// ([`Checker::set_tie_breaker`]). If this agent has switched its role because of the answer,
+    /// also start another check on the pair.
     pub outcome: Outcome,
     /// The time from the start of the check to its answer. This is the round-trip time if the check
     /// was sent only once.

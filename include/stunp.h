@@ -121,11 +121,10 @@
  * first one. stunp_strerror returns a text for each error. A call that succeeds leaves the rest of
  * the buffer, after the bytes that it writes, unchanged.
  *
- * If you pass a length above PTRDIFF_MAX, such as the -1 of a recv that failed, or a null pointer
- * with a length, a call of the exported library fails with STUNP_BAD_ARGUMENT before it tests for
- * any other error, and reads and writes nothing there; stunp_is_stun returns 0. The proved archives
- * do so for the length of a message or a packet that a call reads, and leave all other lengths and
- * null pointers to you.
+ * If you pass a length above PTRDIFF_MAX, such as the -1 of a recv that failed, a call of the
+ * exported library fails with STUNP_BAD_ARGUMENT before it tests for any other error, and reads and
+ * writes nothing there; stunp_is_stun returns 0. The proved archives do so for the length of a
+ * message or a packet that a call reads, and leave all other lengths to you.
  *
  * Test a result with `< 0` or `> 0`, or compare it with the value that you expect. An error is not
  * 0, so `if (stunp_verify(..))` would accept every forgery. If you need only yes or no, call

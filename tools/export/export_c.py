@@ -44,7 +44,7 @@ def border_of(text, module):
                 pointer, whole = SLICES[kind]
                 declared += [f"{label}: {pointer}", f"length_of_{label}: usize"]
                 handed.append(f"unsafe {{ {whole}({label}, length_of_{label}) }}")
-                possible.append(f"can_be({label}, length_of_{label})")
+                possible.append(f"is_possible::<{kind[-4:].strip('[]& ')}>(length_of_{label})")
             else:
                 failed += [f"        {FAILED[label]};\n"] if label in FAILED else []
                 declared.append(f"{label}: {kind}")
@@ -78,7 +78,8 @@ def write(out, exported, places, root):
               "use crate::handle::endpoint::EndpointHandle;\n"
               "use crate::handle::state::StateHandle;\n"
               "use super::stun_numbers::refusal::Refusal;\n"
-              "use crate::kit::alloc::Global;\nuse crate::passed::{can_be, read, written};\n\n")
+              "use crate::kit::alloc::Global;\n"
+              "use crate::passed::{is_possible, read, written};\n\n")
     for crate in CRATES:
         source = root / "crates" / crate / "src"
         for path in sorted(source.rglob("*.rt")):

@@ -48,9 +48,9 @@ fit_refusal message room n =
     if nat_lt max_length (length_with message n) then Some MessageTooLong
     else if nat_lt room (attribute_length n) then Some BufferTooSmall else None
 
--- the types of TURN that a message may have more than once: XOR-RELAYED-ADDRESS, because the response
--- to a client that asks for both families of addresses has one of each (RFC 8656, section 7.2), and
--- XOR-PEER-ADDRESS, because a CreatePermission can have any number of peers (RFC 8656, section 10.1)
+-- the types of TURN that a message may have more than once: XOR-RELAYED-ADDRESS, because the
+-- response to a client that asks for both families of addresses has one of each (RFC 8656, section
+-- 7.2), and XOR-PEER-ADDRESS, because a CreatePermission has any number of peers (section 10.1)
 abbrev pub may_repeat : ℕ → Bool
 may_repeat kind = (kind == XOR_PEER_ADDRESS) || (kind == XOR_RELAYED_ADDRESS)
 

@@ -1,8 +1,8 @@
 //! Laws about the definitions that the contracts of this crate cite. They state what
 //! `include/stunp.h` says about several calls together. They do nothing when they run.
 
-ghost use Rattle.std.specs.Prelude.{◌≡◌, ◌≢◌, ◌≤◌, ◌<◌, ◌^◌, ◌+◌, ◌-◌, ◌⊎◌, ℕ, ℤ, pos, suc, Bool, List, []};
-ghost use Rattle.std.specs.Prelude.{◌∷◌, ◌++◌, drop, take, length, map};
+ghost use Rattle.std.specs.Prelude.{◌≡◌, ◌≢◌, ◌≤◌, ◌<◌, ◌^◌, ◌+◌, ◌-◌, ◌⊎◌, ℕ, ℤ, pos, suc};
+ghost use Rattle.std.specs.Prelude.{Bool, List, [], ◌∷◌, ◌++◌, drop, take, length, map};
 ghost use Rattle.std.specs.Prelude.{slice_get, cond, IfOk, Some, None, Result, Ok, true};
 ghost use Rattle.std.specs.Option.{option_map};
 ghost use Rattle.std.specs.Str.{is_utf8};

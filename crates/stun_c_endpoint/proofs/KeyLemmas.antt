@@ -47,7 +47,7 @@ block-if a key false is = ltb-false 64 (length key) is
 
 -- the key of a reply is not longer than its block
 pub told_key_short : (o : Option IntegrityAlgorithm) (key : List ℕ) → key_length_told o key ≤ 64
-told_key_short None key = arith
+told_key_short None key = omega arith
 told_key_short (Some a) key = block-if a key (nat_lt 64 (length key)) refl
 
 -- ---- digests

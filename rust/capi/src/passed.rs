@@ -3,11 +3,11 @@
 
 use core::slice;
 
-/// Returns `true` if there can be `length` values at the pointer: it is not null, unless the length
-/// is 0, and the values have at most `isize::MAX` bytes. A program that passes the result of a
-/// `recv` that failed, -1, passes a greater length. The call then fails, and reads nothing there.
-pub fn can_be<T>(at: *const T, length: usize) -> bool {
-    length == 0 || !at.is_null() && length <= isize::MAX as usize / size_of::<T>()
+/// Returns `true` if a slice can have this length: its values have at most `isize::MAX` bytes. A
+/// program that passes the -1 of a `recv` that failed passes a greater length. The call then fails,
+/// and reads nothing at the pointer.
+pub const fn is_possible<T>(length: usize) -> bool {
+    length <= isize::MAX as usize / size_of::<T>()
 }
 
 /// Returns the slice that a call reads.

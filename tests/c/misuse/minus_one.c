@@ -64,10 +64,9 @@ static void ice(void) {
     settings.name = "abcd", settings.password = "0123456789012345678901";
     if (stunp_ice_checker_new(&agent, &settings) < 0) return;
     stunp_ice_checks checks = stunp_ice_checks_on(&agent, places, 1);
-    printf(", ICE %d (%d)",
-           (int)stunp_ice_checker_receive(&agent, bytes, length, &from, NULL, out, sizeof out,
-                                          &received),
-           (int)received.kind);
+    int64_t one = stunp_ice_checker_receive(&agent, bytes, length, &from, NULL, out, sizeof out,
+                                            &received);
+    printf(", ICE %d (%d)", (int)one, (int)received.kind);
     printf(" %d %d\n",
            (int)stunp_ice_checks_receive(&checks, bytes, length, &from, &from, 0, out, sizeof out,
                                          NULL, NULL),

@@ -43,6 +43,10 @@ OF_C = [("# [ unsafe ( no_mangle ) ]", ""), ('extern "C" fn', "fn"),
 # What a slice is for C, and which function of passed.rs makes it of a pointer and a length.
 SLICES = {"&[u8]": ("*const u8", "read"), "&mut[u8]": ("*mut u8", "written"),
           "&[u16]": ("*const u16", "read"), "&mut[u16]": ("*mut u16", "written")}
+# What a call writes and returns if a length is impossible: what it fills says so, and the result is
+# an error, unless the call says whether a packet is STUN, which such a packet is not.
+FILLED = {"received": "received.fails();", "event": "event.fails();", "cause": "*cause = 0;"}
+IMPOSSIBLE = {"stunp_is_stun": "0"}
 
 
 def name_of(path):
@@ -52,27 +56,33 @@ def name_of(path):
 
 
 def border_function(module, name, parameters, result):
-    """The function that C calls, with a pointer and a length for each slice."""
-    declared, passed = [], []
+    """The function that C calls, with a pointer and a length for each slice, which it tests."""
+    declared, passed, possible, filled = [], [], [], ""
     for label, _, *kind in parameters:
         kind = "".join(kind).replace("&mut", "&mut ").replace("&mut [", "&mut[")
         pointer, whole = SLICES.get(kind, (None, None))
         if pointer:
             declared += [f"{label}: {pointer}", f"length_of_{label}: usize"]
             passed.append(f"unsafe {{ {whole}({label}, length_of_{label}) }}")
+            possible.append(f"is_possible::<{pointer.split()[-1]}>(length_of_{label})")
         elif kind == "Global":
             passed.append("Global")
         else:
             declared.append(f"{label}: {kind}")
             passed.append(label)
+            filled += FILLED.get(label, "")
+    error = IMPOSSIBLE.get(name, "Refusal::BadArgument.code()")
+    test = f"if !({' && '.join(possible)}) {{ {filled} return {error}; }}" if possible else ""
     return TOKEN.findall(
         f'#[unsafe(no_mangle)] pub unsafe extern "C" fn {name}({", ".join(declared)}) '
-        f'{"".join(result)} {{ {module}::{name}({", ".join(passed)}) }}')
+        f'{"".join(result)} {{ {test} {module}::{name}({", ".join(passed)}) }}')
 
 
 def of_border(sources, places):
     """What border.rs must have: the imports of the types that its functions name, and these."""
-    imports, kept = {("", f"crate::passed::{one}", one) for one in ("read", "written")}, []
+    imports = {("", f"crate::passed::{one}", one) for one in ("is_possible", "read", "written")}
+    imports.add(("", "crate::calls::stun_numbers::refusal::Refusal", "Refusal"))
+    kept = []
     for path, tokens in sources.items():
         crate, name = path.relative_to(CRATES).parts[0], name_of(path)
         module = name.removesuffix(".rs").removesuffix("/mod").replace("/", "::")

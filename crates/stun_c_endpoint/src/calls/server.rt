@@ -17,6 +17,7 @@ use crate::{caused, server};
 use std::alloc::Global;
 use stun_handles::address::Address;
 use stun_handles::answers;
+use stun_numbers::passed::is_impossible;
 use stun_numbers::refusal::Refusal;
 
 /// Creates a server with long-term credentials. `secret` is 32 random bytes, from which the server
@@ -36,7 +37,8 @@ use stun_numbers::refusal::Refusal;
 ///
 /// - `FullHandle`: the handle is not empty.
 /// - `BadArgument`: `algorithms` is above 3, `anonymous_username` is above 2, the nonce lifetime is
-///   below 30 seconds or above 30 days, a secret is one repeated byte, or both secrets are equal.
+///   below 30 seconds or above 30 days, a secret is one repeated byte, both secrets are equal, or
+///   the realm is empty.
 /// - `NotText`: the realm or SOFTWARE is not UTF-8.
 /// - `TextTooLong`: the realm or SOFTWARE has more than 763 bytes.
 /// - `OutOfMemory`: an allocation failed.
@@ -220,6 +222,9 @@ pub extern "C" fn stunp_endpoint_server_receive_own(
     ensures users { users.new.kept ≡ users.old.kept }
 {
     received.fails();
+    if is_impossible(message) {
+        return Refusal::BadArgument.code();
+    }
     let Some(kept) = server.take(alloc) else {
         return Refusal::EmptyHandle.code();
     };
@@ -264,6 +269,9 @@ pub extern "C" fn stunp_endpoint_server_receive_with_cause_own(
 {
     received.fails();
     *cause = 0;
+    if is_impossible(message) {
+        return Refusal::BadArgument.code();
+    }
     let Some(kept) = server.take(alloc) else {
         return Refusal::EmptyHandle.code();
     };
@@ -322,6 +330,9 @@ pub extern "C" fn stunp_endpoint_server_identify_own(
     ensures server { server.new.kept ≡ server.old.kept }
 {
     received.fails();
+    if is_impossible(message) {
+        return Refusal::BadArgument.code();
+    }
     let Some(kept) = server.take(alloc) else {
         return Refusal::EmptyHandle.code();
     };
@@ -348,8 +359,9 @@ pub extern "C" fn stunp_endpoint_server_identify_own(
 /// - `WrongHandle`: the handle has something other than a server with long-term credentials.
 /// - `NotText`: the name or the password is not UTF-8.
 /// - `TextTooLong`: the name has more than 513 bytes.
-/// - `BadArgument`: the password is empty, a key has a wrong length, `received.size` is wrong,
-///   `unix_seconds` is too large, or `from` is not an IPv4 or IPv6 address.
+/// - `BadArgument`: the name or the password is empty, both keys are missing, a key has a wrong
+///   length, `received.size` is wrong, `unix_seconds` is too large, or `from` is not an IPv4 or IPv6
+///   address.
 /// - `OutOfMemory`: an allocation failed.
 /// - `BufferTooSmall`: the response does not fit into `out`. Its length is then in
 ///   `received.needed`.
@@ -374,6 +386,9 @@ pub extern "C" fn stunp_endpoint_server_resume_own(
     ensures server { server.new.kept ≡ server.old.kept }
 {
     received.fails();
+    if is_impossible(message) {
+        return Refusal::BadArgument.code();
+    }
     let Some(kept) = server.take(alloc) else {
         return Refusal::EmptyHandle.code();
     };
@@ -421,6 +436,9 @@ pub extern "C" fn stunp_endpoint_server_cause_own(
     ensures server { server.new.kept ≡ server.old.kept }
     ensures users { users.new.kept ≡ users.old.kept }
 {
+    if is_impossible(message) {
+        return Refusal::BadArgument.code();
+    }
     let Some(kept) = server.take(alloc) else {
         return Refusal::EmptyHandle.code();
     };

@@ -1673,8 +1673,9 @@ STUNP_INLINED uint64_t stunp_ice_consent_until(const stunp_ice_consent *consent,
  *     earlier challenge that a success response has confirmed (STUNP_DROP_WEAKER_CHALLENGE).
  *   - A challenge for which the current message is already signed: the client drops it
  *     (STUNP_DROP_REFUSED), and retransmits the message when its timer is due. If the challenge
- *     arrives once more after that, the request ends. Over a stream, where nothing is
- *     retransmitted, the request ends when the challenge first arrives.
+ *     arrives once more after that, the request ends, unless another message became the current
+ *     one in between. Over a stream, where nothing is retransmitted, the request ends when the
+ *     challenge first arrives.
  *   - An unsigned error 400, 437 or 441 to a signed message: it may be forged, so it does not end
  *     the request. Instead, the client sends another message of the request, or an unsigned message
  *     if there is no other message. Likewise, after an unsigned 437 to the unsigned message, the

@@ -407,7 +407,7 @@ impl<A: Memory> Asked<A> {
         if turn.why.is_doubt() {
             asked.doubts = asked.doubts.saturating_add(1);
         }
-        asked.refusals = asked.refusals.sent(turn.why.is_refusal());
+        asked.refusals = asked.refusals.turned(turn.why.is_refusal());
         (asked, is_kept, turn.answered)
     }
 
@@ -474,7 +474,7 @@ impl<A: Memory> Asked<A> {
     {
         let mut asked = self;
         asked.handed_out = asked.handed_out.handed_out_at(now);
-        asked.refusals = asked.refusals.sent(false);
+        asked.refusals = asked.refusals.sent();
         asked
     }
 

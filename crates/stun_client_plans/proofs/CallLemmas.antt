@@ -30,10 +30,11 @@ use Rattle.stun_client_calls.specs.Clients.{refusal_of_page}
 use Rattle.stun_client_calls.specs.Clients.{refusal_to_start, started, started_at, started_by}
 use Rattle.stun_client_calls.specs.Clients.{started_with}
 use Rattle.stun_client_calls.specs.Deciding.{DecisionSeen, answered, drops, refuses, turns}
-use Rattle.stun_client_calls.specs.Deciding.{unauthorized}
+use Rattle.stun_client_calls.specs.Deciding.{challenged_out}
 use Rattle.stun_client_calls.specs.Endpoints.{EndSeen, bare_end}
 use Rattle.stun_client_calls.specs.Messages.{AskedSeen, new_asked, turned}
 use Rattle.stun_client_calls.specs.Options.{Options}
+use Rattle.stun_client_calls.specs.Receiving.{end_after}
 use Rattle.stun_client_calls.specs.Receiving.{Answer, Memory, Met, Spot, UnlessMemory}
 use Rattle.stun_client_calls.specs.Receiving.{as_expected, by_class, by_decision, by_met}
 use Rattle.stun_client_calls.specs.Receiving.{decision_for, forgone, heard_in, moment_of}
@@ -113,8 +114,8 @@ module _ (c : Client) (P : All → Type 0) (same : P c.requests)
           response = bytes;
           round_trip = round_trip_of now m;
         }) there
-    decided_so unauthorized =
-        ended m.number (length bytes) m.asked (moment_of now m) (bare_end how.Unauthorized) there
+    decided_so challenged_out =
+        ended m.number (length bytes) m.asked (moment_of now m) (bare_end (end_after m.asked.signed_for bytes)) there
     decided_so (turns why place d) = spot_so why d (spot_of c m.asked place)
     decided_so refuses = changed_so (Refused (code_in bytes)) m.number
     decided_so (drops why) = changed_so (Noted why (code_in bytes)) m.number

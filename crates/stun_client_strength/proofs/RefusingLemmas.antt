@@ -36,13 +36,13 @@ use Rattle.stun_client_calls.specs.Clients.{ends, given_up as given_up_at, hande
 use Rattle.stun_client_calls.specs.Clients.{told, transmit, waits, with_requests}
 use Rattle.stun_client_calls.specs.Deciding.{DecisionSeen, decided, drops, is_spent}
 use Rattle.stun_client_calls.specs.Messages.{is_late}
-use Rattle.stun_client_calls.specs.Deciding.{refuses, turns_for, unauthorized}
+use Rattle.stun_client_calls.specs.Deciding.{refuses, turns_for, challenged_out}
 use Rattle.stun_client_calls.specs.Endpoints.{EndSeen, bare_end}
 use Rattle.stun_client_calls.specs.Messages.{AskedSeen, refusing, sent_out}
 use Rattle.stun_client_calls.specs.Receiving.{Memory, Met, by_class}
 use Rattle.stun_client_calls.specs.Receiving.{by_decision, by_met, dropping_refusal, heard_in}
 use Rattle.stun_client_calls.specs.Receiving.{judge_for}
-use Rattle.stun_client_calls.specs.Receiving.{received, unauthorized_by}
+use Rattle.stun_client_calls.specs.Receiving.{received, challenged_out_by}
 use Rattle.stun_client_calls.specs.Runs.{Call, Calls, Event, call, changes_nothing, ends_one}
 use Rattle.stun_client_calls.specs.Runs.{no_call, polled as says_so, polls, receives, requests}
 use Rattle.stun_client_calls.specs.declared.asked.Change.{Change}
@@ -172,10 +172,10 @@ module _ (memory : Memory) (from : SocketAddr) (bytes : List ℕ) (now : ℕ) (c
       comes_to v is ∙ ap (λ (x : DecisionSeen). by_decision memory c now bytes m x) so
 
   -- a request is given up
-  is_given_up : received memory from bytes now c ≡ unauthorized_by c now bytes m
+  is_given_up : received memory from bytes now c ≡ challenged_out_by c now bytes m
       → IsGivenUp memory from bytes now m.number c
   is_given_up is = record {
-    next = (unauthorized_by c now bytes m).1;
+    next = (challenged_out_by c now bytes m).1;
     consumed = is;
     ended = ended_there m.number (length bytes) _ (bare_end how.Unauthorized)
         m.asked c.requests (heard_met from bytes c m hears).stored;
@@ -190,7 +190,7 @@ module _ (memory : Memory) (from : SocketAddr) (bytes : List ℕ) (now : ℕ) (c
       record {
         next = (dropping_refusal m.number bytes c).1;
         dropped_so = decides (refused None) refuses is
-            (ap (λ b. cond b unauthorized refuses)
+            (ap (λ b. cond b challenged_out refuses)
             (none_of (is_reliable c.requests.table.transport) m.asked.refusals.is_earlier
             (ap is_reliable transport) first));
         asked = refusing (code_in bytes) m.asked;
@@ -206,8 +206,8 @@ module _ (memory : Memory) (from : SocketAddr) (bytes : List ℕ) (now : ℕ) (c
       → (c.requests.table.transport ≡ Tcp) ⊎ (m.asked.refusals.is_earlier ≡ true)
       → IsGivenUp memory from bytes now m.number c
   second_ends is which =
-      is_given_up (decides (refused None) unauthorized is
-      (ap (λ b. cond b unauthorized refuses) (last which)))
+      is_given_up (decides (refused None) challenged_out is
+      (ap (λ b. cond b challenged_out refuses) (last which)))
     where
       last : (c.requests.table.transport ≡ Tcp) ⊎ (m.asked.refusals.is_earlier ≡ true)
           → (is_reliable c.requests.table.transport || m.asked.refusals.is_earlier) ≡ true
@@ -223,11 +223,11 @@ module _ (memory : Memory) (from : SocketAddr) (bytes : List ℕ) (now : ℕ) (c
   third_ends x is in_time many =
       let limits = (judge_for c m.asked).limits in
       let spent = is_spent limits m.asked || nat_le OTHERS m.asked.refusals.others in
-      is_given_up (decides (refused (Some x)) unauthorized is
+      is_given_up (decides (refused (Some x)) challenged_out is
       (ap (λ b. cond b (drops LateChallenge)
-      (cond spent unauthorized (turns_for Why.Refused x m.asked)))
+      (cond spent challenged_out (turns_for Why.Refused x m.asked)))
       (le-ltb m.asked.until now in_time)
-      ∙ ap (λ b. cond b unauthorized (turns_for Why.Refused x m.asked))
+      ∙ ap (λ b. cond b challenged_out (turns_for Why.Refused x m.asked))
       (or_right (is_spent limits m.asked) (nat_le OTHERS m.asked.refusals.others)
       (le-leb OTHERS m.asked.refusals.others many))))
 

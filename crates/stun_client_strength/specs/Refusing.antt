@@ -1,5 +1,5 @@
 -- How often a request may be refused (RFC 8489, section 9.2.5): a wrong password ends it soon.
-use Rattle.std.specs.Prelude.{◌≡◌, ◌⊎◌, ◌≤◌, ◌==◌, ◌||◌, ℕ, Bool, true, false, List, [], ◌∷◌}
+use Rattle.std.specs.Prelude.{◌≡◌, ◌⊎◌, ◌<◌, ◌≤◌, ◌==◌, ◌||◌, ℕ, Bool, true, false, List, [], ◌∷◌}
 use Rattle.std.specs.Prelude.{Option, Some, None}
 use Rattle.std.specs.declared.net.socket_addr.SocketAddr.{SocketAddr}
 use Rattle.stun_base.specs.declared.wire.transport.TransportType.TheVariants.{Tcp, Udp}
@@ -83,12 +83,14 @@ is_sent_in number [] = false
 is_sent_in number (event ∷ events) = sends number event || is_sent_in number events
 
 -- a refusal is remembered, a sequence of calls follows, and one of them returns the bytes of the
--- request. If the request is still outstanding, the next refusal ends it
+-- request. If the request is still outstanding, and no other message of it became the current one,
+-- the next refusal ends it
 abbrev pub RefusalsAreRemembered : Type 0
 RefusalsAreRemembered =
     (c later : Client) (events : List Event) (number : ℕ) (a : AskedSeen) (memory : Memory)
     (from : SocketAddr) (bytes : List ℕ) (now : ℕ) (m : Met) → IsClient c
     → datum_of number c.requests ≡ Some a → a.refusals.is_recent ≡ true → Calls c events later
     → is_sent_in number events ≡ true → message_answered later from bytes ≡ Some m
-    → m.number ≡ number → response_verdict later bytes m ≡ refused None
+    → m.number ≡ number → m.asked.turns ≡ a.turns → a.turns < 4294967295
+    → response_verdict later bytes m ≡ refused None
     → IsGivenUp memory from bytes now number later

@@ -17,9 +17,10 @@ ghost use Rattle.stun_client_strength.specs.Unsigned.{UnsignedRequestsStayUnsign
 ///   response arrives again after the request was sent once more, it ends the request as
 ///   `Unauthorized`. Over a reliable transport, the first such response already ends the request
 ///   (`second`).
-/// - The client remembers the first refusal, whatever calls are made in between (`remembered`). So
-///   a client with a wrong password sends the signed message twice over UDP, and once over a
-///   reliable transport, if the server answers each datagram in time.
+/// - The client remembers the first refusal, whatever calls are made in between, until another
+///   message of the request becomes the current one (`remembered`). So a client with a wrong
+///   password sends the signed message twice over UDP, and once over a reliable transport, if the
+///   server answers each datagram in time.
 /// - A 401 with the same realm and security bits, but another nonce or list of algorithms, ends the
 ///   request if two conditions hold: two such 401s have already caused the client to send the
 ///   request again as another message, and the third arrives within the first plan of the request

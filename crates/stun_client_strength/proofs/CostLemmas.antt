@@ -233,10 +233,13 @@ abbrev pub IsBound : Bool → ℕ → Option AskedSeen → Type 0
 IsBound is_waiting count None = count ≤ 0
 IsBound is_waiting count (Some a) = count + cond is_waiting 1 0 ≤ units_of a
 
--- a message that waits was not refused since it was sent
+-- a message that waits was sent, and was not refused since then
+abbrev IsSentFresh : Refusals → Type 0
+IsSentFresh f = (f.is_recent ≡ false) × (f.is_sent ≡ true)
+
 abbrev pub IsFresh : Bool → Option AskedSeen → Type 0
 IsFresh is_waiting None = ⊤
-IsFresh is_waiting (Some a) = is_waiting ≡ true → a.refusals.is_recent ≡ false
+IsFresh is_waiting (Some a) = is_waiting ≡ true → IsSentFresh a.refusals
 
 no_more : (count : ℕ) (w u x : Bool) → count ≤ 0
     → count + cond w 1 0 ≤ cond u 3 (cond x 1 2)
@@ -260,16 +263,19 @@ challenged_more : (count : ℕ) (w x : Bool) → count + 0 ≤ 2 → count + con
 challenged_more count true x low = omega (arith, low)
 challenged_more count false x low = omega (arith, low)
 
-refused_more : (count : ℕ) (w e r u : Bool) → u ≡ false → e ≡ false → (w ≡ true → r ≡ false)
-    → count + 0 ≤ cond u 3 (cond (e || true) 1 2)
+refused_more : (count : ℕ) (w e r s u : Bool) → u ≡ false → e ≡ false
+    → (w ≡ true → (r ≡ false) × (s ≡ true)) → count + 0 ≤ cond u 3 (cond (e || (r || s)) 1 2)
     → count + cond w 1 0 ≤ cond u 3 (cond (e || r) 1 2)
-refused_more count w e r true signed off fresh low = cc
-refused_more count w true r false signed off fresh low = cc
-refused_more count true false true false signed off fresh low =
-    let no : true ≡ false = fresh refl in cc
-refused_more count true false false false signed off fresh low = omega (arith, low)
-refused_more count false false true false signed off fresh low = omega (arith, low)
-refused_more count false false false false signed off fresh low = omega (arith, low)
+refused_more count w e r s true signed off fresh low = cc
+refused_more count w true r s false signed off fresh low = cc
+refused_more count true false true s false signed off fresh low =
+    let no : true ≡ false = (fresh refl).0 in cc
+refused_more count true false false true false signed off fresh low = omega (arith, low)
+refused_more count true false false false false signed off fresh low =
+    let no : false ≡ true = (fresh refl).1 in cc
+refused_more count false false true s false signed off fresh low = omega (arith, low)
+refused_more count false false false true false signed off fresh low = omega (arith, low)
+refused_more count false false false false false signed off fresh low = omega (arith, low)
 
 -- a request that is over takes none
 none_more : (count : ℕ) (w : Bool) (o : Option AskedSeen) → count ≤ 0 → IsBound w count o
@@ -299,12 +305,12 @@ signed_one None some = cc
 signed_one (Some x) some = refl
 
 refused_bound : (count : ℕ) (w : Bool) (a b : AskedSeen) → IsSome a.signed_for
-    → a.refusals.is_earlier ≡ false → (w ≡ true → a.refusals.is_recent ≡ false)
+    → a.refusals.is_earlier ≡ false → (w ≡ true → IsSentFresh a.refusals)
     → IsLeft (λ o. o ≡ a.signed_for) (after_refusal a.refusals) b → count + 0 ≤ units_of b
     → count + cond w 1 0 ≤ units_of a
 refused_bound count w a b some off fresh left low =
-    refused_more count w a.refusals.is_earlier a.refusals.is_recent (is_none a.signed_for)
-    (signed_one a.signed_for some) off fresh
+    refused_more count w a.refusals.is_earlier a.refusals.is_recent a.refusals.is_sent
+    (is_none a.signed_for) (signed_one a.signed_for some) off fresh
     (subst (λ (f : Refusals). count + 0 ≤ units a.signed_for f) left.counts
     (subst (λ (o : Option Answered). count + 0 ≤ units o b.refusals) left.signed low))
 
@@ -335,7 +341,7 @@ module _ (stays : StaysAClient) (transmits : TransmitsWhatIsThere) (number : ℕ
       (transmits now number c next is said) in
       let left = sent_left now number c next out.asked is.requests.one out.there said in
       let low = costs true next n later next_is rest (Some out.asked) out.there
-      (λ so. ap (λ (x : AskedSeen). x.refusals.is_recent) (sym left.same)) in
+      (λ so. subst (λ (x : AskedSeen). IsSentFresh x.refusals) left.same (refl, refl)) in
       subst (λ (x : Option AskedSeen). IsBound false (n + 1) x) (sym left.there ∙ there)
       (sent_bound now n left.before out.asked left.same low)
   costs w c count later is
@@ -402,10 +408,10 @@ module _ (stays : StaysAClient) (transmits : TransmitsWhatIsThere) (number : ℕ
       by (Some b) some bounds =
           let u = untouched b some in
           let same : o ≡ Some u.before = sym there ∙ u.there in
-          let was : w ≡ true → u.before.refusals.is_recent ≡ false =
+          let was : w ≡ true → IsSentFresh u.before.refusals =
           subst (λ (y : Option AskedSeen). IsFresh w y) same fresh in
           let bound = bounds (Some b) some
-          (λ so. ap (λ (f : Refusals). f.is_recent) (sym u.refusals) ∙ was so) in
+          (λ so. subst IsSentFresh u.refusals (was so)) in
           subst (λ (y : Option AskedSeen). IsBound w n y) (sym same)
           (subst (λ (s : Option Answered). n + cond w 1 0 ≤ units s u.before.refusals)
           (sym u.signed_for)

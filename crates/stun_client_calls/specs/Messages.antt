@@ -32,8 +32,9 @@ pub record SentSeen : Type 0 where
   pub signed_for : Option Answered
   pub is_doubted : Bool
 
--- the earlier messages of a request, each under its rank. The later a message was sent for the
--- first time, the lower is its rank, so the last one comes first
+-- the earlier messages of a request, each under its rank. The later a message was written, the
+-- lower is its rank, so the one that was written last comes first, whichever of them was the current
+-- one last
 abbrev pub AllSent : Type 0
 AllSent = List (ℕ × SentSeen)
 
@@ -60,8 +61,7 @@ pub record AskedSeen : Type 0 where
   pub refusals : Refusals
   pub drops : Drops
 
--- the rank of a message that is sent for the first time after another message has become the
--- current one this often
+-- the rank of a message that is written after another message has become the current one this often
 abbrev pub rank_after : ℕ → ℕ
 rank_after turns = 4294967295 - turns
 

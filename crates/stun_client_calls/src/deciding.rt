@@ -53,7 +53,8 @@ pub enum Decision<A: Allocator> {
 ///
 /// - A response that is believed ends the request.
 /// - A challenge is answered with the message for it, which is an earlier message of the request or
-///   a new one. After the first plan of the request, the challenge is dropped as `LateChallenge`.
+///   a new one. After the first plan of the request, the challenge is dropped as `LateChallenge`,
+///   but a challenge that arrives exactly at the end of this plan is answered.
 ///   If another message has become the current one as often as the limit allows, the challenge ends
 ///   the request.
 /// - A 401 for the same realm and security bits, with a different nonce or list, is answered like a
@@ -67,9 +68,10 @@ pub enum Decision<A: Allocator> {
 /// - A *doubt* is an error that casts doubt on the message that it answers. It is dropped after the
 ///   first plan of the request, once another message has become the current one as often as the
 ///   limit allows, and once three doubts have made another message the current one. Otherwise the
-///   last eligible earlier message becomes the current one again. A message is eligible if it is
-///   not in doubt, and is not signed for a challenge that is weaker than the challenge that a
-///   success has confirmed.
+///   eligible earlier message that was written last becomes the current one again. A message is
+///   eligible if it is not in doubt, and is not signed for a challenge that is weaker than the
+///   challenge that a success has confirmed. If it is signed, new requests are then signed for its
+///   challenge, so an unsigned 437, which anybody can send, can change that challenge.
 ///
 ///   If there is no eligible message, the effect of a doubt depends on the current message. If that
 ///   message is signed, a new unsigned message replaces it, unless the request has an unsigned

@@ -226,6 +226,18 @@ fn a_check_may_be_sent_once() {
 }
 
 #[test]
+fn a_plan_without_waits_waits() {
+    let (mut here, _) = both();
+    let none = Duration::ZERO;
+    let plan = Retransmission::new(none, none, u32::MAX, none);
+    here.start(&new(1).retransmission(plan), ms(0)).unwrap();
+    for now in 0..100 {
+        let (sends, ends, until) = due(&mut here, ms(now));
+        assert_eq!((sends.len(), ends, until), (1, Vec::new(), Some(ms(now + 1))));
+    }
+}
+
+#[test]
 fn nothing_is_checked_before_the_peer_is_known() {
     let mut checks = Checks::new(Checker::offer(LEFT, 1, Controlling).unwrap());
     assert_eq!(checks.start(&new(1), ms(0)), Err(NewCheckError::NoRemote));

@@ -26,7 +26,8 @@ OVER = f'STUN_C="$PWD/{ARCHIVE}" STUN_STATE="$PWD/{ARCHIVE}"'
 
 # The merge tier. What needs no proof:
 CHECKS = {
-    "layout": "python3 tools/layout.py",
+    "layout": '"$(dirname "$(rt doc)")/bin/rattle" fmt --check $(git ls-files -co '
+              '--exclude-standard "crates/*.rt" "crates/*.antt")',
     "export-look": "python3 tools/export/export.py target/merge/export",
     "rooms": "python3 tools/rooms.py",
     "printed": "python3 tools/printed.py",

@@ -74,14 +74,6 @@ def watch(took, is_ended):
         took.update(samples())
 
 
-def lanes():
-    """How many checks `rt ci` makes side by side, each with one job: as many as there are processors,
-    and 4 GB of memory for each, beside 3 GB for the exported crate. (Four jobs in one check take
-    more than twice the processor seconds of one, since each loads what it proves over for itself.)"""
-    free = int(re.search(r"MemAvailable:\s+(\d+)", Path("/proc/meminfo").read_text())[1])
-    return max(1, min(os.cpu_count() or 1, (free - 3_000_000) // 4_000_000))
-
-
 def prove():
     """Runs `rt ci`, prints what it prints, writes the record, and returns the status."""
     said = subprocess.run("git rev-parse HEAD && git status --porcelain", shell=True, cwd=crates.TOP,
@@ -89,8 +81,8 @@ def prove():
     print(f"commit: {said[0]}{', with changes' if any(said[1:]) else ''}", flush=True)
     (sums, begun), took, is_ended = crates.begin(), {}, threading.Event()
     threading.Thread(target=watch, args=(took, is_ended), daemon=True).start()
-    os.environ.setdefault("RT_JOBS", str(lanes()))
-    os.environ["PROOF_RUN"] = str(os.getpid())
+    # With 3 GB for the exported crate, which is built and tested beside it.
+    os.environ |= {"PROOF_RUN": str(os.getpid()), "RT_JOBS": str(crates.lanes(4, 3))}
     with subprocess.Popen(["rt", "ci"], cwd=crates.TOP, text=True, errors="replace",
                           stdout=subprocess.PIPE, stderr=subprocess.STDOUT) as ran:
         log = []

@@ -40,6 +40,7 @@ import time
 from pathlib import Path
 
 import crates
+import only
 import shown
 
 WRONG = crates.TOP / "tests/wrong"
@@ -131,25 +132,14 @@ def law_of(edit):
     return law, path
 
 
-def names_at(text, path, at):
-    """The names by which rattle may know the function at a place of a file, and its module."""
+def names_at(crate, path, at):
+    """The path of the function at a place of a file, and that of its module."""
+    text = (crates.TOP / "crates" / crate / path).read_text()
+    found = [name for (file, number), name in only.paths_of(crate)[0].items()
+             if file == path and number <= text.count("\n", 0, at)]
     module = [part for part in path[len("src/"):-len(".rt")].split("/")
               if part not in ("mod", "lib", "main")]
-    above = text[:text.find("\n", at)]
-    functions = re.findall(r"(?m)^( *)(?:[\w()\"]+ )*?fn (\w+)", above)
-    names = []
-    if functions:
-        indent, name = functions[-1]
-        # An impl's trait and type, or a trait.
-        heads = re.findall(r"(?m)^(?:impl\b(?:<[^{]*?>)? (?:([\w:]+)(?:<[^{]*?>)? for )?|"
-                           r"(?:pub(?:\(\w+\))? )?trait )([\w:]+)", above)
-        if indent and heads:
-            trait, kind = (one.strip(":").rpartition("::")[2] for one in heads[-1])
-            # The end of a name is enough where it fits one function alone.
-            names.append([kind + trait, name])
-        else:
-            names.append([*module, name])
-    return ["::".join(words) for words in [*names, module] if words]
+    return [*found[-1:], *(["::".join(module)] if module else [])]
 
 
 def check(crate, texts, *more, of=None):
@@ -190,7 +180,7 @@ def verdict(crate, edit, is_shown):
         law = law_of(edit)
     except (ValueError, OSError, TypeError) as error:
         return False, f"cannot be made: {error}"
-    names = names_at((folder / path).read_text(), path, at)
+    names = names_at(crate, path, at)
     if law:
         return verdict_of_law(crate, texts, names[0], law, is_shown)
     for name in names:

@@ -60,18 +60,20 @@ PROOFS = {
               "crates/stun_tool/out/stun_tool",
     "edits": "python3 tools/wrong.py",
 }
-# The exported crate, with its tests and transcripts, and the conformance suite over it.
+# The exported crate, with its tests and transcripts, and the conformance suite over it and over its
+# calls for C.
 EXPORTED = {
     "exported": f"tools/rust.sh --can || exit {LEFT_OUT}; tools/rust.sh",
     "exported-pages": "python3 tools/transcripts.py --rust target/export",
-    "users": "python3 tests/users_page.py; python3 tests/users_database.py",
     "forged": "tests/forged.sh",
+    "users": "python3 tests/users_page.py; python3 tests/users_database.py",
     "suite": "python3 conformance/musts.py; python3 conformance/play.py model; "
              "python3 conformance/play.py second; python3 conformance/play.py",
 }
 # Its calls for C, and the examples over these.
 EXPORTED_C = {
-    "exported-c": "tools/rust_c.sh",
+    "exported-c": '. tools/compiler.sh; there "${CC-}" cc || { echo "left out, no C compiler"; '
+                  f"exit {LEFT_OUT}; }}; tools/rust_c.sh",
     "c-tests": f"{OVER} tests/check.sh",
     "c-pages": f"python3 tools/transcripts.py --c {ARCHIVE}",
     "examples": f"{OVER} tests/examples.sh",
@@ -79,9 +81,8 @@ EXPORTED_C = {
 MERGE = (PROOFS, EXPORTED, EXPORTED_C, CHECKS)
 AFTER = {
     "programs": ("proofs",), "edits": ("proofs",), "differ": ("proofs", "exported"),
-    "exported-c": ("exported",),
-    **{name: ("exported",) for name in EXPORTED if name != "exported"},
-    **{name: ("exported-c",) for name in EXPORTED_C if name != "exported-c"},
+    "exported-pages": ("exported",), "forged": ("exported",), "exported-c": ("exported",),
+    **{name: ("exported-c",) for name in ("users", "suite", "c-tests", "c-pages", "examples")},
 }
 
 RELEASE = {
@@ -91,7 +92,7 @@ RELEASE = {
     "edits": "python3 tools/wrong.py --all",
     # Bugs in the exporter, in the library under the sources, in refusals and in the suite's model.
     "plants": "python3 tests/export/export_plants.py; python3 tests/refusals_plants.py; "
-              "tools/rust.sh --build; python3 conformance/plants.py",
+              "python3 conformance/plants.py",
     "least": "tools/rust.sh --export; tests/export/least.sh",
     "bare": "tests/bare.sh --test bookworm trixie",
     "package": "tests/package.sh",

@@ -4,8 +4,8 @@ a word where a bar is missed.
 
     bench/bars.py
 
-It reads the sources of bench.c, state.py, growth.c and endpoint.py, and runs none of them. Status 1,
-and a line for each difference.
+It reads the sources of bench.c, growth.c and endpoint.py, and runs none of them. Status 1, and a line
+for each difference.
 """
 
 import ast
@@ -90,13 +90,6 @@ def of_bench():
         yield from told("bench.c", title, number(cells[0]), most)
 
 
-def of_state():
-    yield from same_rows("state.py", [title for _, title in value("state.py", "ALONE")],
-                         table("Call, through C", "instructions"))
-    yield from same_rows("state.py", value("state.py", "PAUSES"),
-                         table(f"Longest pause at {value('state.py', 'RECORDS'):,} records"))
-
-
 def of_growth():
     source = (HERE / "growth.c").read_text()
     sizes = re.search(r"counts\[SIZES\] = \{([^}]*)\}", source)[1].split(", ")
@@ -124,7 +117,7 @@ def of_endpoint():
 
 
 def main():
-    parts = (of_bench, of_state, of_growth, of_endpoint)
+    parts = (of_bench, of_growth, of_endpoint)
     differences = [one for part in parts for one in part()]
     for one in differences:
         print(f"bars: {one}", file=sys.stderr)

@@ -69,13 +69,13 @@ EXPORTED = {
     "users": "python3 tests/users_page.py; python3 tests/users_database.py",
     "suite": "python3 conformance/musts.py; python3 conformance/play.py model; "
              "python3 conformance/play.py second; python3 conformance/play.py",
+    "c-tests": f"{OVER} tests/check.sh",
+    "c-pages": f"python3 tools/transcripts.py --c {ARCHIVE}",
 }
-# Its calls for C, and the examples over these.
+# Its calls for C, and the examples over these, which wait for timers more than they compute.
 EXPORTED_C = {
     "exported-c": '. tools/compiler.sh; there "${CC-}" cc || { echo "left out, no C compiler"; '
                   f"exit {LEFT_OUT}; }}; tools/rust_c.sh",
-    "c-tests": f"{OVER} tests/check.sh",
-    "c-pages": f"python3 tools/transcripts.py --c {ARCHIVE}",
     "examples": f"{OVER} tests/examples.sh",
 }
 MERGE = (PROOFS, EXPORTED, EXPORTED_C, CHECKS)

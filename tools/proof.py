@@ -100,24 +100,29 @@ def prove():
     return ran.returncode
 
 
+def toolchain():
+    """The lines of the record that name the toolchain."""
+    compiler = f"{crates.kit()}/bin/rattle"
+    kit, version = (subprocess.run(words, capture_output=True, text=True, check=True).stdout.strip()
+                    for words in (["rt", "version"], [compiler, "--version"]))
+    digest = hashlib.sha256(Path(compiler).read_bytes()).hexdigest()
+    return f"kit: {kit}\ncompiler: {version}, sha256 {digest}\n"
+
+
 def write(passed, sums, took):
-    """Writes the lines of the crates that passed, if their files are as they were."""
-    known, rows = known_lines(), []
+    """Writes the lines of the crates that passed, if their files are as they were. Other lines stay,
+    if they are of this toolchain."""
+    by, rows = toolchain(), []
+    known = known_lines() if RECORD.is_file() and by in RECORD.read_text() else {}
     for crate in crates.lines():
         total = crates.sum_of(crate)
         line = known.get(crate)
         if crate in passed and sums[crate] == total and (not line or line[4] != total):
             seconds = f"{took[crate]:.0f}" if crate in took else "-"
-            rows.append(f"{crate} {counted(crate)} {seconds} s {total}")
+            rows.append(f"{crate} {counted(crate)} {seconds} s {total}\n")
         elif line:
-            rows.append(line[0])
-    kit = subprocess.run(["rt", "version"], capture_output=True, text=True, check=True).stdout
-    compiler = f"{crates.kit()}/bin/rattle"
-    version = subprocess.run([compiler, "--version"], capture_output=True, text=True,
-                             check=True).stdout
-    digest = hashlib.sha256(Path(compiler).read_bytes()).hexdigest()
-    head = [f"{HEAD}kit: {kit.strip()}", f"compiler: {version.strip()}, sha256 {digest}"]
-    RECORD.write_text("\n".join([*head, *rows]) + "\n")
+            rows.append(f"{line[0]}\n")
+    RECORD.write_text(HEAD + by + "".join(rows))
 
 
 def look(is_whole):

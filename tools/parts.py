@@ -7,8 +7,9 @@
 
 A part that ends with LEFT_OUT cannot run on this machine. The parts of the release tier take at
 most 170 minutes each on four cores. Their results are in target/release-tier and name the commit,
-so they can be made on several machines and copied together. `release` is last, since it packs what
-`merge` and `archives` built.
+so they can be made on several machines and copied together. `edits` and `archives` take the
+libraries that `merge` left in the same folder, or else sources. `release` is last, since it packs
+what `merge` and `archives` built.
 """
 import re
 import subprocess

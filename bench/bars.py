@@ -4,7 +4,8 @@ a word where a bar is missed.
 
     bench/bars.py
 
-It reads the sources of bench.c, growth.c and endpoint.py, and runs none of them. Status 1, and a line for each difference.
+It reads the sources of bench.c, growth.c and endpoint.py, and runs none of them. Status 1, and a line
+for each difference.
 """
 
 import ast

@@ -110,14 +110,14 @@ def merges(top):
            and ran == names, [*lines, ran ^ names])
     lines, status, ran = run(top, "merge", FAIL="rooms exported-c")
     expect("a part that fails stops those that need it", status == 1
-           and ran == names - {"c-tests", "c-pages", "examples"}
+           and ran == names - {"c-tests", "c-pages", "examples", "users", "suite"}
            and say(lines, "merge: rooms: FAILED, with status 1")
            and say(lines, "merge: examples: FAILED: it did not run")
-           and lines[-1] == "23 passed, 5 failed", lines)
+           and lines[-1] == "23 passed, 7 failed", lines)
     lines, status, ran = run(top, "merge", LACKS="exported")
     expect("what cannot run is listed, with what needs it", status == 0 and "suite" not in ran
            and say(lines[-25:], "this machine lacks: exported: left out, it is not there")
-           and say(lines[-25:], "this machine lacks: suite: left out, as exported is"), lines)
+           and say(lines[-25:], "this machine lacks: suite: left out, as exported-c is"), lines)
     lines, status, ran = run(top, "merge", KILLED="yes")
     expect("proofs that end without a count", status == 1 and "edits" not in ran
            and "examples" in ran and lines[-1] == "0 passed, 4 failed", lines)

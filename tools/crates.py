@@ -98,6 +98,16 @@ def kit():
     return os.path.dirname(said.strip())
 
 
+def lanes(each, beside=0):
+    """How many checks run side by side, each with one job: as RT_JOBS says, or else as many as there
+    are processors and GB of memory for each, beside so many GB for others. (Four jobs in one check
+    take more than twice the processor seconds of one, since each loads what it proves over.)"""
+    if os.environ.get("RT_JOBS", "").isdigit():
+        return int(os.environ["RT_JOBS"])
+    free = int(re.search(r"MemAvailable:\s+(\d+)", Path("/proc/meminfo").read_text())[1]) // 1000000
+    return max(1, min(os.cpu_count() or 1, (free - beside) // each))
+
+
 def root_of(crate):
     """The root file of a crate, in its folder."""
     is_program = (TOP / "crates" / crate / "src/main.rt").exists()

@@ -4,7 +4,7 @@
     tools/licenses.py              each manifest has the field, README.md and the release name both
                                    licenses, docs/LICENSES.md has each crate of the toolchain that
                                    crates.txt names and, after `make export`, each crate of cargo
-    tools/licenses.py --debian     after `make dist`, in its sources: Debian's file `copyright`
+    tools/licenses.py --debian     prints Debian's file `copyright`
 
 Prints what differs, then how much was compared.
 """
@@ -21,8 +21,6 @@ TEXTS = ("LICENSE-APACHE", "LICENSE-MIT")
 # Where both texts have to be named, or copied.
 PLACES = ("README.md", "CONTRIBUTING.md", PAGE, "tools/release.py", "tools/export/export.py")
 FEATURES = "std rand tracing asm"
-# Names of Debian for the same texts.
-DEBIAN = {TERMS: "Expat or Apache-2.0", "MIT": "Expat"}
 
 
 def text_of(path):
@@ -88,35 +86,18 @@ def compared():
     return wrong, count
 
 
-def paragraph(files, holders, license):
-    return "Files: %s\nCopyright: %s\nLicense: %s\n" % (files, "\n ".join(holders), DEBIAN[license])
-
-
-def holders_of(folder):
-    """Whom the license files of a crate name, or whom its manifest does."""
-    texts = [path.read_text("utf-8") for path in sorted(folder.glob("LICENSE*"))]
-    names = re.findall(r"(?m)^ *Copyright(?: \(c\))? ((?:\d|[A-Z]).*?)\.?$", "\n".join(texts))
-    authors = re.search(r"(?m)^authors = \[(.*?)\]", text_of(folder / "Cargo.toml"), re.DOTALL)
-    named = re.findall(r'"([^"<]*?) *(?:<[^"]*)?"', authors.group(1)) if authors else []
-    return list(dict.fromkeys(names)) or named or ["the authors of " + folder.name]
-
-
 def debian():
-    """Debian's file of this repository and of the crates in vendor/."""
+    """Debian's file of this repository."""
     mit = "".join(" %s\n" % (line or ".") for line in text_of("LICENSE-MIT").split("\n")[2:-1])
-    yield ("Format: https://www.debian.org/doc/packaging-manuals/copyright-format/1.0/\n"
-           "Upstream-Name: stunp\n")
-    yield paragraph("*", ["2026 The Seatcrane authors"], TERMS)
-    for folder in sorted(path for path in pathlib.Path("vendor").glob("*") if path.is_dir()):
-        license = re.search(r'(?m)^license = "(.*)"', text_of(folder / "Cargo.toml")).group(1)
-        yield paragraph("vendor/%s/*" % folder.name, holders_of(folder), same_terms(license))
-    yield "License: Apache-2.0\n The text is in /usr/share/common-licenses/Apache-2.0.\n"
-    yield "License: Expat\n" + mit
+    return ("Format: https://www.debian.org/doc/packaging-manuals/copyright-format/1.0/\n"
+            "Upstream-Name: stunp\n\nFiles: *\nCopyright: 2026 The Seatcrane authors\n"
+            "License: Expat or Apache-2.0\n\nLicense: Apache-2.0\n"
+            " The text is in /usr/share/common-licenses/Apache-2.0.\n\nLicense: Expat\n" + mit)
 
 
 def main():
     if sys.argv[1:] == ["--debian"]:
-        print("\n".join(debian()), end="")
+        print(debian(), end="")
         return True
     if sys.argv[1:]:
         sys.exit(__doc__)

@@ -13,6 +13,7 @@ refused at once, with those that are near to it. It is no verdict on the crate: 
 that.
 """
 import difflib
+import functools
 import os
 import re
 import subprocess
@@ -34,26 +35,29 @@ def last(path):
 
 
 def modules(crate):
-    """The modules of a crate that are files, each with its path and its lines."""
-    source = crates.TOP / "crates" / crate / "src"
-    for file in sorted(source.rglob("*.rt")):
-        yield [part for part in file.relative_to(source).with_suffix("").parts
-               if part not in ("lib", "main", "mod")], file.read_text().split("\n")
+    """The modules of a crate that are files, each with its path, its file and its lines."""
+    folder = crates.TOP / "crates" / crate
+    for file in sorted((folder / "src").rglob("*.rt")):
+        module = [part for part in file.relative_to(folder / "src").with_suffix("").parts
+                  if part not in ("lib", "main", "mod")]
+        yield module, str(file.relative_to(folder)), file.read_text().split("\n")
 
 
+@functools.lru_cache(None)
 def paths_of(crate):
-    """The paths of the functions of a crate, and those of its types and modules, below the crate. A
-    method is named by the module that declares its type, and in an impl of a trait by both."""
-    functions, others, at = set(), set(), {}
-    for module, lines in modules(crate):
+    """The paths of the functions of a crate, each with its file and line, and those of its types and
+    modules, below the crate. A method is named by the module that declares its type, and in an impl
+    of a trait by both."""
+    functions, others, at = {}, set(), {}
+    for module, _, lines in modules(crate):
         declared = filter(None, map(DECLARED.match, lines))
         at |= {(kind, tuple(module)): module for kind in (one[1] for one in declared)}
         others |= {"::".join(module[:end]) for end in range(1, len(module) + 1)}
     homes = {kind: module for (kind, _), module in reversed(at.items())}
     others |= {"::".join([*module, kind]) for (kind, _), module in at.items()}
-    for module, lines in modules(crate):
+    for module, file, lines in modules(crate):
         inside = []
-        for line in lines:
+        for number, line in enumerate(lines):
             head, function = HEAD.match(line), FUNCTION.match(line)
             if head:
                 trait, kind = head.groups()
@@ -62,8 +66,8 @@ def paths_of(crate):
             elif line[:1] == "}":
                 inside = []
             elif function:
-                functions.add("::".join([*(inside if function[1] and inside else module),
-                                         function[2]]))
+                path = [*(inside if function[1] and inside else module), function[2]]
+                functions[file, number] = "::".join(path)
     return functions, others
 
 
@@ -92,8 +96,9 @@ def main():
     crate, *words = sys.argv[1:]
     if crate not in crates.lines():
         sys.exit(f"only: crates.txt has no crate {crate}: it has {' '.join(crates.lines())}")
-    known = paths_of(crate)
-    found = [path_of(word.removeprefix(crate + "::"), *known) for word in words]
+    functions, others = paths_of(crate)
+    found = [path_of(word.removeprefix(crate + "::"), set(functions.values()), others)
+             for word in words]
     if None in found:
         return 2
     folder = crates.TOP / "crates" / crate

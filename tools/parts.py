@@ -7,8 +7,9 @@
 
 A part that ends with LEFT_OUT cannot run on this machine. The parts of the release tier take at
 most 170 minutes each on four cores. Their results are in target/release-tier and name the commit,
-so they can be made on several machines and copied together. `release` is last, since it packs what
-`merge` and `archives` built.
+so they can be made on several machines and copied together. `edits` and `archives` take the
+libraries that `merge` left in the same folder, or else sources. `release` is last, since it packs
+what `merge` and `archives` built.
 """
 import re
 import subprocess
@@ -26,7 +27,8 @@ OVER = f'STUN_C="$PWD/{ARCHIVE}" STUN_ENDPOINT="$PWD/{ARCHIVE}"'
 
 # The merge tier. What needs no proof:
 CHECKS = {
-    "layout": "python3 tools/layout.py",
+    "layout": '"$(dirname "$(rt doc)")/bin/rattle" fmt --check $(git ls-files -co '
+              '--exclude-standard "crates/*.rt" "crates/*.antt")',
     "export-look": "python3 tools/export/export.py target/merge/export",
     "rooms": "python3 tools/rooms.py",
     "printed": "python3 tools/printed.py",
@@ -59,28 +61,29 @@ PROOFS = {
               "crates/stun_tool/out/stun_tool",
     "edits": "python3 tools/wrong.py",
 }
-# The exported crate, with its tests and transcripts, and the conformance suite over it.
+# The exported crate, with its tests and transcripts, and the conformance suite over it and over its
+# calls for C.
 EXPORTED = {
     "exported": f"tools/rust.sh --can || exit {LEFT_OUT}; tools/rust.sh",
     "exported-pages": "python3 tools/transcripts.py --rust target/export",
-    "users": "python3 tests/users_page.py; python3 tests/users_database.py",
     "forged": "tests/forged.sh",
+    "users": "python3 tests/users_page.py; python3 tests/users_database.py",
     "suite": "python3 conformance/musts.py; python3 conformance/play.py model; "
              "python3 conformance/play.py second; python3 conformance/play.py",
-}
-# Its calls for C, and the examples over these.
-EXPORTED_C = {
-    "exported-c": "tools/rust_c.sh",
     "c-tests": f"{OVER} tests/check.sh",
     "c-pages": f"python3 tools/transcripts.py --c {ARCHIVE}",
+}
+# Its calls for C, and the examples over these, which wait for timers more than they compute.
+EXPORTED_C = {
+    "exported-c": '. tools/compiler.sh; there "${CC-}" cc || { echo "left out, no C compiler"; '
+                  f"exit {LEFT_OUT}; }}; tools/rust_c.sh",
     "examples": f"{OVER} tests/examples.sh",
 }
 MERGE = (PROOFS, EXPORTED, EXPORTED_C, CHECKS)
 AFTER = {
     "programs": ("proofs",), "edits": ("proofs",), "differ": ("proofs", "exported"),
-    "exported-c": ("exported",),
-    **{name: ("exported",) for name in EXPORTED if name != "exported"},
-    **{name: ("exported-c",) for name in EXPORTED_C if name != "exported-c"},
+    "exported-pages": ("exported",), "forged": ("exported",), "exported-c": ("exported",),
+    **{name: ("exported-c",) for name in ("users", "suite", "c-tests", "c-pages", "examples")},
 }
 
 RELEASE = {
@@ -90,7 +93,7 @@ RELEASE = {
     "edits": "python3 tools/wrong.py --all",
     # Bugs in the exporter, in the library under the sources, in refusals and in the suite's model.
     "plants": "python3 tests/export/export_plants.py; python3 tests/refusals_plants.py; "
-              "tools/rust.sh --build; python3 conformance/plants.py",
+              "python3 conformance/plants.py",
     "least": "tools/rust.sh --export; tests/export/least.sh",
     "bare": "tests/bare.sh --test bookworm trixie",
     "package": "tests/package.sh",

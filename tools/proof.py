@@ -74,14 +74,6 @@ def watch(took, is_ended):
         took.update(samples())
 
 
-def lanes():
-    """How many checks `rt ci` makes side by side, each with one job: as many as there are processors,
-    and 4 GB of memory for each, beside 3 GB for the exported crate. (Four jobs in one check take
-    more than twice the processor seconds of one, since each loads what it proves over for itself.)"""
-    free = int(re.search(r"MemAvailable:\s+(\d+)", Path("/proc/meminfo").read_text())[1])
-    return max(1, min(os.cpu_count() or 1, (free - 3_000_000) // 4_000_000))
-
-
 def prove():
     """Runs `rt ci`, prints what it prints, writes the record, and returns the status."""
     said = subprocess.run("git rev-parse HEAD && git status --porcelain", shell=True, cwd=crates.TOP,
@@ -89,8 +81,8 @@ def prove():
     print(f"commit: {said[0]}{', with changes' if any(said[1:]) else ''}", flush=True)
     (sums, begun), took, is_ended = crates.begin(), {}, threading.Event()
     threading.Thread(target=watch, args=(took, is_ended), daemon=True).start()
-    os.environ.setdefault("RT_JOBS", str(lanes()))
-    os.environ["PROOF_RUN"] = str(os.getpid())
+    # With 3 GB for the exported crate, which is built and tested beside it.
+    os.environ |= {"PROOF_RUN": str(os.getpid()), "RT_JOBS": str(crates.lanes(4, 3))}
     with subprocess.Popen(["rt", "ci"], cwd=crates.TOP, text=True, errors="replace",
                           stdout=subprocess.PIPE, stderr=subprocess.STDOUT) as ran:
         log = []
@@ -108,24 +100,29 @@ def prove():
     return ran.returncode
 
 
+def toolchain():
+    """The lines of the record that name the toolchain."""
+    compiler = f"{crates.kit()}/bin/rattle"
+    kit, version = (subprocess.run(words, capture_output=True, text=True, check=True).stdout.strip()
+                    for words in (["rt", "version"], [compiler, "--version"]))
+    digest = hashlib.sha256(Path(compiler).read_bytes()).hexdigest()
+    return f"kit: {kit}\ncompiler: {version}, sha256 {digest}\n"
+
+
 def write(passed, sums, took):
-    """Writes the lines of the crates that passed, if their files are as they were."""
-    known, rows = known_lines(), []
+    """Writes the lines of the crates that passed, if their files are as they were. Other lines stay,
+    if they are of this toolchain."""
+    by, rows = toolchain(), []
+    known = known_lines() if RECORD.is_file() and by in RECORD.read_text() else {}
     for crate in crates.lines():
         total = crates.sum_of(crate)
         line = known.get(crate)
         if crate in passed and sums[crate] == total and (not line or line[4] != total):
             seconds = f"{took[crate]:.0f}" if crate in took else "-"
-            rows.append(f"{crate} {counted(crate)} {seconds} s {total}")
+            rows.append(f"{crate} {counted(crate)} {seconds} s {total}\n")
         elif line:
-            rows.append(line[0])
-    kit = subprocess.run(["rt", "version"], capture_output=True, text=True, check=True).stdout
-    compiler = f"{crates.kit()}/bin/rattle"
-    version = subprocess.run([compiler, "--version"], capture_output=True, text=True,
-                             check=True).stdout
-    digest = hashlib.sha256(Path(compiler).read_bytes()).hexdigest()
-    head = [f"{HEAD}kit: {kit.strip()}", f"compiler: {version.strip()}, sha256 {digest}"]
-    RECORD.write_text("\n".join([*head, *rows]) + "\n")
+            rows.append(f"{line[0]}\n")
+    RECORD.write_text(HEAD + by + "".join(rows))
 
 
 def look(is_whole):

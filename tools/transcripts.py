@@ -146,11 +146,7 @@ def in_clone(work):
     """What a function returns of a fresh clone."""
     with tempfile.TemporaryDirectory() as scratch:
         clone = os.path.join(scratch, "clone")
-        if subprocess.run(["git", "clone", "-q", TOP, clone], capture_output=True).returncode != 0:
-            # Not a repository of git, or one that git does not trust: its files without what was
-            # built.
-            skipped = shutil.ignore_patterns("out", "target", ".git")
-            shutil.copytree(TOP, clone, ignore=skipped)
+        subprocess.run(["git", "clone", "-q", TOP, clone], check=True)
         return work(clone)
 
 

@@ -12,8 +12,7 @@ The record, tests/wrong/RECORD, has a line for each edit that was tried and refu
 what decides whether it is wrong (tools/shown.py), as it was then. That is the edit, the files that
 it changes, the contracts of what they call, and the definitions of these; of an edit that names a
 law, the contract of the law too. So a comment, a proof, or a body in another file calls for no
-edit: a proof cannot make a wrong body right. The line `kit:` names the toolchain that all were last
-tried by.
+edit: a proof cannot make a wrong body right.
 
 An edit is a line `file: src/..`, and then pairs of lines `old: TEXT` and `new: TEXT`; further lines
 `file:` begin the pairs of other files. It is made in a copy of the crate: first the function or the
@@ -41,6 +40,7 @@ import time
 from pathlib import Path
 
 import crates
+import only
 import shown
 
 WRONG = crates.TOP / "tests/wrong"
@@ -97,12 +97,6 @@ def in_words(edits):
     return ", ".join(f"{count} of {crate}" for crate, count in counts.items())
 
 
-def kit_line():
-    """The line of the record for the toolchain."""
-    said = subprocess.run(["rt", "version"], capture_output=True, text=True, check=False).stdout
-    return f"kit: {said.strip()}"
-
-
 def edited(edit, folder):
     """The texts of the files that an edit changes, by their paths, and the place of its first."""
     texts, path, old, first = {}, None, None, None
@@ -138,25 +132,14 @@ def law_of(edit):
     return law, path
 
 
-def names_at(text, path, at):
-    """The names by which rattle may know the function at a place of a file, and its module."""
+def names_at(crate, path, at):
+    """The path of the function at a place of a file, and that of its module."""
+    text = (crates.TOP / "crates" / crate / path).read_text()
+    found = [name for (file, number), name in only.paths_of(crate)[0].items()
+             if file == path and number <= text.count("\n", 0, at)]
     module = [part for part in path[len("src/"):-len(".rt")].split("/")
               if part not in ("mod", "lib", "main")]
-    above = text[:text.find("\n", at)]
-    functions = re.findall(r"(?m)^( *)(?:[\w()\"]+ )*?fn (\w+)", above)
-    names = []
-    if functions:
-        indent, name = functions[-1]
-        # An impl's trait and type, or a trait.
-        heads = re.findall(r"(?m)^(?:impl\b(?:<[^{]*?>)? (?:([\w:]+)(?:<[^{]*?>)? for )?|"
-                           r"(?:pub(?:\(\w+\))? )?trait )([\w:]+)", above)
-        if indent and heads:
-            trait, kind = (one.strip(":").rpartition("::")[2] for one in heads[-1])
-            # The end of a name is enough where it fits one function alone.
-            names.append([kind + trait, name])
-        else:
-            names.append([*module, name])
-    return ["::".join(words) for words in [*names, module] if words]
+    return [*found[-1:], *(["::".join(module)] if module else [])]
 
 
 def check(crate, texts, *more, of=None):
@@ -197,7 +180,7 @@ def verdict(crate, edit, is_shown):
         law = law_of(edit)
     except (ValueError, OSError, TypeError) as error:
         return False, f"cannot be made: {error}"
-    names = names_at((folder / path).read_text(), path, at)
+    names = names_at(crate, path, at)
     if law:
         return verdict_of_law(crate, texts, names[0], law, is_shown)
     for name in names:
@@ -236,14 +219,6 @@ def verdict_of_law(crate, texts, name, law, is_shown):
     return False, f"NOT REFUSED: the check of the law ended with {ran.returncode}"
 
 
-def workers():
-    """How many checks run side by side: each takes up to three gigabytes."""
-    with open("/proc/meminfo") as opened:
-        free = int(re.search(r"MemAvailable:\s+(\d+)", opened.read())[1])
-    asked = os.environ.get("RT_JOBS", "")
-    return int(asked) if asked.isdigit() else max(1, min(os.cpu_count() or 1, free // 3_000_000))
-
-
 def sweep():
     """Removes the copies of runs that were killed, and what such runs kept."""
     for path in Path(tempfile.gettempdir()).glob("wrong-*-*"):
@@ -263,7 +238,7 @@ def tried(edits, is_shown=False):
     """Tries edits, tells of each, and returns those that are not refused."""
     sweep()
     wrong, begun = [], time.monotonic()
-    with concurrent.futures.ThreadPoolExecutor(workers(), initializer=named_worker) as pool:
+    with concurrent.futures.ThreadPoolExecutor(crates.lanes(3), initializer=named_worker) as pool:
         made = {pool.submit(verdict, edit.parent.name, edit, is_shown): edit for edit in edits}
         for done in concurrent.futures.as_completed(made):
             edit, (is_refused, why) = made[done], done.result()
@@ -283,9 +258,7 @@ def try_changed(found):
     known = known_lines()
     kept = [line for edit, line in lines.items()
             if edit not in wrong and (edit in found or line in known)]
-    is_of_kit = not wrong and (kit_line() in known or set(found) == set(lines))
-    kits = [kit_line()] if is_of_kit else [line for line in known if line.startswith("kit: ")]
-    RECORD.write_text(HEAD + "".join(line + "\n" for line in [*kits, *sorted(kept)]))
+    RECORD.write_text(HEAD + "".join(line + "\n" for line in sorted(kept)))
     return 1 if wrong else 0
 
 

@@ -258,9 +258,11 @@ static void sizes(void) {
     want("send_request", stunp_agent_send_request(&agent, request.bytes, request.length, &remote,
          0), 0);
     for (size_t i = 0; i < sizeof others / sizeof *others; i++) {
-        /* The block holds the size alone, so a sanitizer reports each further byte that is read. */
-        stunp_timeouts *cut = malloc(sizeof cut->size);
-        stunp_statistics *short_counts = malloc(sizeof short_counts->size);
+        /* The block holds the size alone, so a sanitizer reports each further byte that is read. A
+         * compiler would warn of the length if the block were a struct at once. */
+        void *blocks[] = {malloc(sizeof(size_t)), malloc(sizeof(size_t))};
+        stunp_timeouts *cut = blocks[0];
+        stunp_statistics *short_counts = blocks[1];
         if (cut == NULL || short_counts == NULL) exit(1);
         cut->size = others[i];
         short_counts->size = others[i];

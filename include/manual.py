@@ -100,10 +100,20 @@ def blocks(lines):
     return found
 
 
-def brief(text):
-    """The first sentence, as a line of NAME."""
-    first = re.split(r"[.:](?:\s|$)", " ".join(text.split()))[0]
-    return escaped(first[0].lower() + first[1:]).replace("`", "")
+def brief(text, name):
+    """The first sentence, as a line of NAME, which has 80 columns: without what is in brackets, and,
+    if it does not fit, without a clause at its end or with dots at the end of the line."""
+    first = re.split(r"[.:](?:\s|$)", " ".join(text.split()))[0].replace("`", "")
+    words = re.sub(r" \([^()]*\)", "", first[0].lower() + first[1:]).split()
+    room = 80 - len(f"       {name} - ")
+    if len(" ".join(words)) > room:
+        words = re.split(r", (?=which|but|like|with|from|for|and (?:returns|writes|whose))",
+                         " ".join(words))[0].split()
+    if len(" ".join(words)) > room:
+        while len(" ".join(words)) + len(" ..") > room:
+            words.pop()
+        words[-1] = words[-1].rstrip(",;") + " .."
+    return escaped(" ".join(words))
 
 
 def written(folder, name, header, version, what, synopsis, sections):
@@ -113,8 +123,9 @@ def written(folder, name, header, version, what, synopsis, sections):
     # A line of 78 columns has the name twice. What is between them is left out if it does not fit.
     middle = "STUN (RFC 8489)" if not 27 < len(name) <= 35 else " "
     top = name if len(name) <= 35 else header[:-2]
-    roff = [f".TH {top} {section} \"\" \"stunp {version}\" \"{middle}\"", ".nr HY 0", ".nh",
-            ".ad l", ".SH NAME", f"{name} \\- {what}", ".SH SYNOPSIS", ".nf", escaped(includes)]
+    # (some releases of groff adjust each section anew, as AD says)
+    roff = [f".TH {top} {section} \"\" \"stunp {version}\" \"{middle}\"", ".ds AD l", ".nr HY 0",
+            ".nh", ".ad l", ".SH NAME", f"{name} \\- {what}", ".SH SYNOPSIS", ".nf", escaped(includes)]
     roff += [".PP", *map(coded, synopsis)] if synopsis else []
     roff += [".fi"]
     for title, lines in sections:
@@ -177,7 +188,7 @@ def page(folder, header, version, declared, name, comment, shared, pages):
         lines = folded(lines)
     others = sorted({*NAME.findall("\n".join(comment))} & {*pages} - {name})
     notes = [line for text in shared if not PLAIN.search(name) for line in paragraph(text)]
-    written(folder, name, header, version, brief(comment[0]), lines,
+    written(folder, name, header, version, brief(comment[0], name), lines,
             [*parted(comment), ("CONSTANTS", values), ("NOTES", notes),
              ("SEE ALSO", [",\n".join([f".BR {other} (3)" for other in others]
                                       + [f".BR {header[:-2]} (7)"])])])

@@ -3,27 +3,29 @@
 # README.md names, and nothing else of this machine: `make export`, whose last three lines are the
 # check of the sample request, its answer and a command to try next; the public address from a server
 # beside it, the jobs in Rust as a program of another folder, both commands of stun_inspect, `make
-# lib` and the program in C, and `make install`. With --test also `make test`. Others are left to
-# other tests: `make dist` (tests/package.sh) and a release (tests/release.sh).
+# lib` and the program in C, and `make install`. With --test also `make test` and `make rust-c`.
+# Others are left to other tests: `make dist` (tests/package.sh) and a release (tests/release.sh).
 #
-#     tests/bare.sh [--test] [SUITE ..]     trixie, unless a word names another release of Debian
+#     tests/bare.sh [--test] [--newest] [SUITE ..]
 #
-# Each Debian is made by debootstrap and kept in ~/.cache/stunp-bare-SUITE. It is left out where
-# there is no debootstrap, root or network to make it, and the status is 77 then. In bookworm, Rust is
-# Debian's rustc-web.
+# SUITE is trixie, unless a word names another release of Debian. Each Debian is made by debootstrap
+# and kept in ~/.cache/stunp-bare-SUITE. It is left out where there is no debootstrap, root or network
+# to make it, and the status is 77 then. Rust is Debian's rustc, but in bookworm its rustc-web; with
+# --newest it is rustc-web in each, which follows the newest Rust.
 set -eu
 top=$(cd "$(dirname "$0")/.." && pwd)
 cache=${XDG_CACHE_HOME:-$HOME/.cache}
 scratch=$(mktemp -d)
 trap 'rm -rf "$scratch"' EXIT
 PATH=$PATH:/usr/sbin:/sbin
-tests=''
+tests='' newest=''
 [ "${1-}" != --test ] || { tests=yes && shift; }
+[ "${1-}" != --newest ] || { newest=-newest && shift; }
 
 # packages SUITE: those that README.md names for this Debian.
 packages() {
-    case $1 in
-    bookworm) echo make gcc python3 rustc-web cargo-web ;;
+    case $1$newest in
+    bookworm* | *-newest) echo make gcc python3 rustc-web cargo-web ;;
     *) echo make gcc python3 rustc cargo ;;
     esac
 }
@@ -112,6 +114,11 @@ expect 'installed: the exported libraries: tested, not proved' tail -n 1 /tmp/in
 cc -I/tmp/root/usr/local/include /tmp/check.c -L/tmp/root/usr/local/lib -lstunp -o /tmp/check
 LD_LIBRARY_PATH=/tmp/root/usr/local/lib expect 'valid' /tmp/check <examples/request.hex
 [ -s /tmp/root/usr/local/share/man/man3/stunp_verify.3 ] || { echo 'bare: no manual' >&2; exit 1; }
+if [ "$TESTS" ]; then
+    begun=$(date +%s)
+    make rust-c >/tmp/rust-c 2>&1 || { cat /tmp/rust-c >&2; exit 1; }
+    echo "bare: make rust-c: $(($(date +%s) - begun)) s, $(rustc --version), $(gcc --version | head -n 1)"
+fi
 INSIDE
 }
 
@@ -127,7 +134,7 @@ named '`cc -Iinclude check.c target/c/libstunp.a -Wl,--gc-sections`'
 named '`./a.out < examples/request.hex` prints `valid`'
 ended=0
 for suite in "${@:-trixie}"; do
-    root=$cache/stunp-bare-$suite
+    root=$cache/stunp-bare-$suite$newest
     if ! based "$suite" "$root"; then
         echo "bare: a minimal Debian ($suite): left out, no debootstrap, root or network"
         ended=77

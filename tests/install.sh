@@ -111,7 +111,7 @@ flags() {
         echo "-I$root/usr/include -L$lib -lstunp"
     fi
 }
-strict='-std=c99 -Wall -Wextra -Wpedantic -Werror'
+strict="-std=c99 -Wall -Wextra -Wpedantic ${WERROR--Werror}"
 for memory in "$heap" -DOWN_MEMORY; do
     $cc $strict $memory c/installed.c $(flags stunp_endpoint) -o "$scratch/installed"
     prints "$version" "$scratch/installed"
@@ -129,7 +129,7 @@ if command -v pkg-config >/dev/null; then checked="$checked, pkg-config"; fi
 if there "${CXX-}" c++; then
     printf '#include <stunp.hpp>\nint main() { return stunp::userhash("name", "realm") ? 0 : 1; }\n' \
         >"$scratch/made.cpp"
-    ${CXX:-c++} -std=c++17 -Wall -Wextra -Wpedantic -Werror "$scratch/made.cpp" \
+    ${CXX:-c++} -std=c++17 -Wall -Wextra -Wpedantic ${WERROR--Werror} "$scratch/made.cpp" \
         $(flags stunp_endpoint) -o "$scratch/made"
     prints '' "$scratch/made"
     checked="$checked, C++"

@@ -13,7 +13,7 @@ cc=${CC:-cc}
 : "${LIBRARIES=-lpthread -ldl -lm}"
 scratch=$(mktemp -d)
 trap 'rm -rf "$scratch"' EXIT
-strict='-std=c99 -O1 -Wall -Wextra -Wpedantic -Werror -fPIC -I../include'
+strict="-std=c99 -O1 -Wall -Wextra -Wpedantic ${WERROR--Werror} -fPIC -I../include"
 archive=$folder/libstunp.a
 main=$scratch/main.o three=$scratch/three.o two=$scratch/two.o passed=$scratch/passed.o
 $cc $strict -c c/memory.c -o "$main"

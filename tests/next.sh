@@ -22,7 +22,7 @@ prints() {
     [ "$printed" = "$1" ] || fail "the program printed '$printed', not '$1'"
 }
 
-$cc -std=c99 -Wall -Wextra -Werror -O2 -Iinclude tests/c/next.c -L"$folder" -lstunp \
+$cc -std=c99 -Wall -Wextra ${WERROR--Werror} -O2 -Iinclude tests/c/next.c -L"$folder" -lstunp \
     -o "$scratch/program"
 ! nm "$scratch/program" | grep -i ' [tw] stunp_' >&2 || fail 'the program has calls of the library'
 version=$(sed -n 's/^#define STUNP_VERSION //p' include/stunp.h)
@@ -50,7 +50,7 @@ if [ "${1-}" != results ]; then
     tools/rust_c.sh --link "$scratch/c" "$scratch/next"
     prints 'it is cut: 11 answers' "$scratch/c"
     # A program of a later version has larger structs than this library, which refuses them.
-    $cc -std=c99 -Wall -Wextra -Werror -O2 -I"$scratch/next" tests/c/next.c -L"$scratch/c" -lstunp \
+    $cc -std=c99 -Wall -Wextra ${WERROR--Werror} -O2 -I"$scratch/next" tests/c/next.c -L"$scratch/c" -lstunp \
         -o "$scratch/program"
     prints 'it is cut: 11 answers' "$scratch/c"
     ! LD_LIBRARY_PATH=$folder "$scratch/program" >/dev/null 2>&1 ||

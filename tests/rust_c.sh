@@ -1,10 +1,20 @@
 #!/bin/sh
 # Runs tests of tests/c and the transcripts over the libraries that tools/rust_c.sh left in
-# target/c, looks at their symbols and sizes, reads the manual and installs all of it. With the word
-# `udp` it also runs programs on sockets.
+# target/c, looks at their symbols, reads the manual and installs all of it.
+#
+#     tests/rust_c.sh [udp] [strict] [sizes]
+#
+# udp      it also runs programs on sockets
+# strict   a warning of the C compiler is an error: for the compilers of the gate, because a
+#          distribution has others, which may warn of more
+# sizes    the libraries may have at most so many bytes: for the compiler of a release
 set -eu
 cd "$(dirname "$0")/.."
 out=$PWD/target/c
+has() { case " $words " in *" $1 "*) ;; *) return 1 ;; esac; }
+words=$*
+export WERROR=''
+if has strict; then WERROR=-Werror; fi
 
 fail() {
     echo "rust_c: $*" >&2
@@ -63,19 +73,18 @@ size_of() {
     strip -R .eh_frame -R .eh_frame_hdr -o "$out/stripped" "$1"
     wc -c < "$out/stripped"
 }
-${CC:-cc} -std=c99 -Os -Wall -Wextra -Wpedantic -Werror -Iinclude tests/c/three_calls.c \
+${CC:-cc} -std=c99 -Os -Wall -Wextra -Wpedantic $WERROR -Iinclude tests/c/three_calls.c \
     "$out/libstunp.a" -Wl,--gc-sections -o "$out/three_calls"
 three=$(size_of "$out/three_calls") shared=$(size_of "$out/libstunp.so")
-[ "$three" -le 20000 ] || fail "a program of three calls has $three bytes"
-# The least Rust makes it larger than the newest.
-most=262000
-case $("${RUSTC:-rustc}" --version) in 'rustc 1.8'* | 'rustc 1.90'*) most=282000 ;; esac
-[ "$shared" -le $most ] || fail "the shared library has $shared bytes"
 echo "rust_c: a program of three calls has $three bytes, the shared library $shared"
+if has sizes && { [ "$three" -gt 20000 ] || [ "$shared" -gt 262000 ]; }; then
+    fail 'the program may have 20000 bytes, and the shared library 262000'
+fi
 case $(uname -sm)$guarded in
 'Linux x86_64' | 'Linux aarch64')
     ${CC:-cc} -std=c11 -O2 -ffreestanding -fno-builtin -nostdlib -static -fno-stack-protector \
-        -Wall -Wextra -Werror -Iinclude tests/c/freestanding.c "$out/libstunp.a" -o "$out/freestanding"
+        -Wall -Wextra $WERROR -Iinclude tests/c/freestanding.c "$out/libstunp.a" \
+        -o "$out/freestanding"
     "$out/freestanding" || fail "the program without a C library ended with $?"
     echo 'rust_c: a program without a C library passed' ;;
 esac
@@ -88,7 +97,7 @@ expect() {
     [ "$printed" = "$wanted" ] ||
         { echo "rust_c: $*: printed '$printed', not '$wanted'" >&2; exit 1; }
 }
-strict='-std=c99 -O1 -g -Wall -Wextra -Wpedantic -Werror -Iinclude -Iexamples/c -D_DEFAULT_SOURCE'
+strict="-std=c99 -O1 -g -Wall -Wextra -Wpedantic $WERROR -Iinclude -Iexamples/c -D_DEFAULT_SOURCE"
 libraries=''
 for name in arguments attributes extra log sockaddr; do
     ${CC:-cc} $strict tests/c/$name.c "$out/libstunp.a" $libraries -o "$out/$name"
@@ -119,7 +128,7 @@ tail -n 1 "$out/played"
 # The same installed, in the place of both archives, and the manual.
 tests/manual.sh
 STUN_C="$out/libstunp.a" STUN_ENDPOINT="$out/libstunp.a" LIBRARIES="$libraries" tests/install.sh
-if [ "${1-}" = udp ]; then
+if has udp; then
     built=target/export/target/debug/examples
     (cd target/export && cargo build --quiet --examples)
     STUN_C="$out/libstunp.a" STUN_ENDPOINT="$out/libstunp.a" LIBRARIES="$libraries" \

@@ -76,7 +76,7 @@ EXPORTED = {
 # Its calls for C, and the examples over these, which wait for timers more than they compute.
 EXPORTED_C = {
     "exported-c": '. tools/compiler.sh; there "${CC-}" cc || { echo "left out, no C compiler"; '
-                  f"exit {LEFT_OUT}; }}; tools/rust_c.sh",
+                  f"exit {LEFT_OUT}; }}; tools/rust_c.sh strict",
     "examples": f"{OVER} tests/examples.sh",
 }
 MERGE = (PROOFS, EXPORTED, EXPORTED_C, CHECKS)

@@ -4,7 +4,7 @@
 # does, and tests and installs nothing; a second word names another folder than target/c. With
 # --link FOLDER HEADERS it links what cargo has built with the calls of other headers
 # (tests/next.sh). Otherwise target/export must be there (tools/rust.sh), and tests/rust_c.sh
-# follows. It needs cargo, a C compiler and the binutils; the variables of make (CC, CFLAGS,
+# follows with the same words. It needs cargo, a C compiler and the binutils; the variables of make (CC, CFLAGS,
 # LDFLAGS, AR, LD, NM, OBJCOPY) and of cargo (CARGO_BUILD_TARGET, CARGO_TARGET_DIR) name others.
 # UNWIND=yes keeps the tables by which debuggers and profilers unwind the stack, an eighth of the
 # shared library.

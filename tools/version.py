@@ -17,6 +17,7 @@ TEXTS = (
     ("crates/stun_inspect/specs/Run.antt", r'codes "stun_inspect ([0-9.]*)"'),
     ("tests/programs/inspect/words.txt", r"(?m)^> stun_inspect (.*)$"),
     ("CHANGELOG.md", r"(?m)^## (.*)"),
+    ("debian/changelog", r"(?m)^stunp \(([0-9.]*)\+"),
     ("README.md", r"\| Version \| ([0-9.]+[0-9])"),
 )
 # The same, where it is the number of C: 10000, 100 and 1 times its parts.

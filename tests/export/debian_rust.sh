@@ -1,34 +1,40 @@
-# The least Rust that rust/Cargo.toml promises, as Debian has it (rustc-web): fetched and unpacked in
-# a cache, and not installed. For least.sh and foreign.sh, which source this at the top of the
-# repository.
+# The least Rust that rust/Cargo.toml promises, as Debian has it (rustc-web of Debian 12, rustc of
+# Debian 13): fetched and unpacked in a cache, and not installed. For least.sh and foreign.sh, which
+# source this at the top of the repository.
 
 least=$(sed -n 's/^rust-version = "\(.*\)"/\1/p' rust/Cargo.toml)
 # It has links, so it is not in the repository: `rt ci` refuses one with a link.
 cache=${XDG_CACHE_HOME:-$HOME/.cache}
 at=$cache/stunp-rust-$least
 
-# version PACKAGE: of this package what Debian has of the least Rust.
-version() { apt-cache madison "$1" | sed -n "s/^[^|]*| *\($least\.[^ ]*\) .*/\1/p" | head -n 1; }
+# version PACKAGE LISTS: the version of this package that is of the least Rust, by these lists.
+version() { apt-cache $2 madison "$1" | sed -n "s/^[^|]*| *\($least\.[^ ]*\) .*/\1/p" | head -n 1; }
+
+# find_rust: in `web` what the names of the packages end with, and in `found` their version.
+find_rust() {
+    web=-web && found=$(version rustc-web '')
+    [ -n "$found" ] || { web='' && found=$(version rustc ''); }
+}
 
 # fetched: whether the compiler is there, or could be fetched.
 fetched() {
-    [ ! -e "$at/whole" ] || return 0
+    [ ! -e "$at/web" ] || return 0
     command -v apt-get >/dev/null && command -v dpkg-deb >/dev/null || return 1
-    found=$(version rustc-web)
+    find_rust
     if [ -z "$found" ] && [ "$(id -u)" = 0 ]; then
         timeout 120 apt-get update -qq >/dev/null 2>&1 || true
-        found=$(version rustc-web)
+        find_rust
     fi
     [ -n "$found" ] || return 1
     rm -rf "$at"
     mkdir -p "$at"
     (cd "$at"
-     llvm=$(apt-cache show "libstd-rust-web-$least=$found" | grep -o 'libllvm[0-9]*' | head -n 1)
-     timeout 300 apt-get download -qq "rustc-web=$found" "libstd-rust-web-dev=$found" \
-        "libstd-rust-web-$least=$found" "$llvm"
+     llvm=$(apt-cache show "libstd-rust$web-$least=$found" | grep -o 'libllvm[0-9]*' | head -n 1)
+     timeout 300 apt-get download -qq "rustc$web=$found" "libstd-rust$web-dev=$found" \
+        "libstd-rust$web-$least=$found" "$llvm"
      for package in *.deb; do dpkg-deb -x "$package" . || exit 1; done
      rm -- *.deb) >/dev/null 2>&1 || return 1
-    touch "$at/whole"
+    echo "$web" >"$at/web"
 }
 
 # library ARCHITECTURE: the folder with the standard library for another architecture of Debian, which
@@ -41,11 +47,9 @@ library() {
         (cd "$there"
          lists="-o APT::Architectures::=$1 -o APT::Architectures::=amd64 -o Dir::State::lists=$there/lists"
          timeout 300 apt-get -qq $lists update || true
-         package=libstd-rust-web-dev:$1
-         found=$(apt-cache $lists madison "$package" |
-            sed -n "s/^[^|]*| *\($least\.[^ ]*\) .*/\1/p" | head -n 1)
-         timeout 300 apt-get -qq $lists download "$package=$found"
-         dpkg-deb -x libstd-rust-web-dev_*.deb .
+         package=libstd-rust$(cat "$at/web")-dev:$1
+         timeout 300 apt-get -qq $lists download "$package=$(version "$package" "$lists")"
+         dpkg-deb -x libstd-rust*-dev_*.deb .
          rm -r -- *.deb lists) >/dev/null 2>&1 || return 1
         touch "$there/whole"
     fi

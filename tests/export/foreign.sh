@@ -2,9 +2,9 @@
 # Runs the tests and the transcripts of target/export as programs for other processors, under qemu
 # (those of i686 without it where this processor can):
 # usage: tests/export/foreign.sh [i686|armv7|aarch64|s390x] ..; all four where none is named. The
-# first two have sizes of 32 bits, and the last has the other order of bytes. It takes what Debian
-# has: its rustc of the least Rust that is promised and the standard libraries for it (fetched, not
-# installed), linkers and qemu-user, which it installs where root runs it.
+# first two have sizes of 32 bits, and the last has the other order of bytes. It takes what Debian 12
+# or 13 has: its rustc of the least Rust that is promised and the standard libraries for it (fetched,
+# not installed), linkers and qemu-user, which it installs where root runs it.
 set -eu
 cd "$(dirname "$0")/../.."
 . tests/export/debian_rust.sh
@@ -22,10 +22,12 @@ names() {
 
 # passes TARGET RUSTC'S-TARGET ARCHITECTURE TOOLS QEMU'S-NAME
 passes() {
-    packages="qemu-user gcc-$4"
+    packages="qemu-user gcc-$4 libc6-dev-$3-cross"
     dpkg -s $packages >/dev/null 2>&1 ||
-        apt-get install -qq -y --no-install-recommends $packages libc6-dev-"$3"-cross >/dev/null
-    sysroot=$(library "$3")
+        apt-get install -qq -y --no-install-recommends $packages >/dev/null ||
+        { echo "foreign: $1 needs these packages, which root can install: $packages"; return 1; }
+    sysroot=$(library "$3") ||
+        { echo "foreign: Debian's standard library of Rust $least for $3 cannot be fetched"; return 1; }
     upper=$(echo "$2" | tr a-z- A-Z_)
     qemu="qemu-$5 -L /usr/$4"
     # This processor may run them itself.
@@ -47,7 +49,10 @@ passes() {
 }
 
 [ $# -gt 0 ] || set -- i686 armv7 aarch64 s390x
-fetched || { echo "Debian's rustc-web $least cannot be fetched here." >&2; exit 1; }
+fetched || {
+    echo "foreign: Rust $least cannot be fetched: it is rustc-web of Debian 12, and rustc of 13" >&2
+    exit 1
+}
 export RUSTC="$at/usr/bin/rustc" CARGO_TARGET_DIR="$PWD/target/foreign"
 export CARGO_PROFILE_DEV_DEBUG=0 CARGO_PROFILE_DEV_OPT_LEVEL=1 CARGO_INCREMENTAL=0
 libraries=$at/usr/lib/x86_64-linux-gnu
@@ -61,7 +66,7 @@ for target; do
     trap 'cat "$log" >&2' EXIT
     # (an error ends what runs behind no `||`)
     (passes "$target" $of) >"$log" 2>&1
-    tests=$(sed -n 's/^test result: ok\. \([0-9]*\) passed.*/\1/p' "$log" | paste -sd+ | bc)
+    tests=$(awk '/^test result: ok/ { all += $4 } END { print all }' "$log")
     echo "$target: $tests tests and $(grep -c ': right, ' "$log") transcripts passed"
     trap - EXIT
 done

@@ -1,14 +1,14 @@
 #!/bin/sh
 # Tests target/export with the least Rust that rust/Cargo.toml promises. It takes the compiler of
-# Debian (rustc-web), which apt-get fetches without installing it, and the cargo that is here. Where
-# that version cannot be fetched it says so, and ends with 77.
+# Debian, which apt-get fetches without installing it, and the cargo that is here. Where that version
+# cannot be fetched it says so, and ends with 77.
 set -eu
 cd "$(dirname "$0")/../.."
 . tests/export/debian_rust.sh
 libraries=$at/usr/lib/x86_64-linux-gnu
 
 if ! fetched; then
-    echo "rust $least, the least: left out, Debian's rustc-web of it cannot be fetched here"
+    echo "rust $least, the least: left out, Debian's package of it cannot be fetched here"
     exit 77
 fi
 export RUSTC="$at/usr/bin/rustc" CARGO_TARGET_DIR="$PWD/target/least"

@@ -435,17 +435,17 @@ typedef enum stunp_refusal {
  * enumerations of this size, so a program that is compiled with -fshort-enums would use structs of
  * another size than the library. */
 #if defined __cplusplus && __cplusplus >= 201103L
-#define STUNP_ENUM_IS_INT(type)                                              \
-    static_assert(sizeof(type) == sizeof(int),                               \
-                  #type " must be an int: compile without -fshort-enums")
+#define STUNP_ENUM_IS_INT(name)                                              \
+    static_assert(sizeof(name) == sizeof(int),                               \
+                  #name " must be an int: compile without -fshort-enums")
 #elif defined __STDC_VERSION__ && __STDC_VERSION__ >= 201112L
-#define STUNP_ENUM_IS_INT(type)                                              \
-    _Static_assert(sizeof(type) == sizeof(int),                              \
-                   #type " must be an int: compile without -fshort-enums")
+#define STUNP_ENUM_IS_INT(name)                                              \
+    _Static_assert(sizeof(name) == sizeof(int),                              \
+                   #name " must be an int: compile without -fshort-enums")
 #else
-#define STUNP_ENUM_IS_INT(type)                                              \
-    typedef char type##_must_be_an_int__compile_without_fshort_enums         \
-        [sizeof(type) == sizeof(int) ? 1 : -1]
+#define STUNP_ENUM_IS_INT(name)                                              \
+    typedef char name##_must_be_an_int__compile_without_fshort_enums         \
+        [sizeof(name) == sizeof(int) ? 1 : -1]
 #endif
 STUNP_ENUM_IS_INT(stunp_message_class);
 STUNP_ENUM_IS_INT(stunp_message_method);

@@ -1,7 +1,7 @@
 /* The buffer of a batch is smaller than an answer. The loop still comes to the end of the datagrams,
  * and the program learns which one was not answered.
  *
- * harmless: 3 calls: 40 bytes, -10 for 48 bytes, 40 bytes */
+ * harmless: 2 calls: 40 bytes, -10 for 52 bytes, 40 bytes */
 #include "stunp_endpoint.h"
 #include <stdio.h>
 

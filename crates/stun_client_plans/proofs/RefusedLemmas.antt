@@ -135,7 +135,7 @@ changed_end A n m change r = by (datum_of m r)
     by : (o : Option AskedSeen)
         → Adds A n r (option_map_or (λ a. after_replacing m (changed change a) r) o r)
     by None end there = inl there
-    by (Some a) = replaced_end A n m (changed change a) r
+    by (Some a) end there = replaced_end A n m (changed change a) r end there
 
 answered_end : (n m count : ℕ) (moment : Option ℕ) (given : EndSeen) (r : All)
     → Adds (λ end. (m ≡ n) × (given ≡ end)) n r (after_answering m count moment given r)
@@ -376,7 +376,7 @@ both_hold false b is = cc
 
 some_of : (o : Option Answered) → is_some o ≡ true → IsSome o
 some_of None is = cc
-some_of (Some x) is = tt
+some_of (Some x) is = refl
 
 code_of : (o : Option ℕ) → is_code UNAUTHORIZED o ≡ true → o ≡ Some UNAUTHORIZED
 code_of None is = cc
@@ -460,11 +460,13 @@ module _ (n : ℕ) (c : Client) (from : SocketAddr) (bytes : List ℕ) (now : �
           | inl before ↦ inl before
           | inr own ↦ inr (refuses_it end own.0 is own.1)
         ]
-    by_its (turns why place d) is =
-        goes_on_so c Leaves itself noted sent memory now bytes m there (turns why place d) tt
-    by_its refuses is = goes_on_so c Leaves itself noted sent memory now bytes m there refuses tt
-    by_its (drops why) is =
-        goes_on_so c Leaves itself noted sent memory now bytes m there (drops why) tt
+    by_its (turns why place d) is end left =
+        goes_on_so c Leaves itself noted sent memory now bytes m there (turns why place d) tt end
+        left
+    by_its refuses is end left =
+        goes_on_so c Leaves itself noted sent memory now bytes m there refuses tt end left
+    by_its (drops why) is end left =
+        goes_on_so c Leaves itself noted sent memory now bytes m there (drops why) tt end left
 
   met_leaves : (memory : Memory) → refusal bytes ≡ None → (o : Option Met)
       → heard_in from bytes c ≡ o → Leaves (by_met memory c now bytes o).1.requests

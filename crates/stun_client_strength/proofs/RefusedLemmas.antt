@@ -104,13 +104,13 @@ module _ (standing : StandingSeen) (bytes : List ℕ) where
       sent_so : (code alike : Bool) → is_code UNAUTHORIZED (code_in bytes) ≡ code
           → IfRefusal (IsOfSigned true (Some b) bytes)
           (cond (code && alike) (refused (Some x)) (anew x))
-      sent_so true true so = (refl, refl, λ some. so)
+      sent_so true true so = (refl, (refl, λ some. so))
       sent_so true false so = tt
       sent_so false alike so = tt
 
       by : (one weak : Bool) → IfRefusal (IsOfSigned true (Some b) bytes)
           (cond one (refused None) (cond weak (dropped WeakerChallenge) (sent_for (Some b) bytes x)))
-      by true weak = (refl, refl, λ some. cc)
+      by true weak = (refl, (refl, λ some. cc))
       by false true = tt
       by false false =
           sent_so (is_code UNAUTHORIZED (code_in bytes)) (is_alike x.challenge b.challenge) refl

@@ -211,13 +211,13 @@ module _ (memory : Memory) (from : SocketAddr) (bytes : List ℕ) (now : ℕ) (c
   is_given_up : (end : RequestEnd) → end_after m.asked.signed_for bytes ≡ end
       → received memory from bytes now c ≡ challenged_out_by c now bytes m
       → IsGivenUp memory from bytes now m.number end c
-  is_given_up end ends is = record {
+  is_given_up end is_end is = record {
     next = (challenged_out_by c now bytes m).1;
     consumed = is;
     ended = ended_there m.number (length bytes) _
         (bare_end (end_after m.asked.signed_for bytes)) m.asked c.requests
         (heard_met from bytes c m hears).stored
-        ∙ ap (λ (e : RequestEnd). Some (Ended (bare_end e))) ends;
+        ∙ ap (λ (e : RequestEnd). Some (Ended (bare_end e))) is_end;
   }
 
   pub is_remembered : response_verdict c bytes m ≡ refused None → c.requests.table.transport ≡ Udp

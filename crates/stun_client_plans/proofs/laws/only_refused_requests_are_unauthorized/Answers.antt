@@ -2,8 +2,8 @@
 use Rattle.stun_client_plans.proofs.RefusedLemmas.{only_by_refusal}
 use Rattle.stun_client_plans.proofs.laws.only_refused_requests_are_unauthorized.Goals as goal
 
-pub returns-clause-0 : goal.returns-clause-0
-returns-clause-0 g = λ c later last between method body options start now end is low none calls
+pub returns : goal.returns
+returns g = λ c later last between method body options start now end is low none calls
     said so.
     only_by_refusal g.clients_stay_in_order.ensures.stays c later last between method body options
     start now end is low none calls said so

@@ -17,7 +17,6 @@ pub mod NonceLengths
 pub mod NonceTexts
 pub mod NoncesDiffer
 pub mod ReadingLemmas
-pub mod Rekeyed
 pub mod Renamed
 pub mod SignedBases
 pub mod SignedGrowth

@@ -22,6 +22,7 @@ pub mod SignedBases
 pub mod SignedGrowth
 pub mod SignedReading
 pub mod SignedRoom
+pub mod TableUsers
 pub mod TailReading
 pub mod UserKeys
 pub mod UserMaps

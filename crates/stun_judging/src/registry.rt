@@ -160,8 +160,9 @@ impl<A: Memory> Registry<A> {
         self.supported == other.supported && self.realm.as_str() == other.realm.as_str()
     }
 
-    /// Returns the key of a registered user for an algorithm, or `None` if there is no such user or
-    /// key.
+    /// Returns the key of a registered user for an algorithm. Returns `None` if there is no such
+    /// user or key, or if the algorithm is not supported.
+    #[tactic(auto, using(crate::proofs::TableUsers::key_own))]
     pub(crate) fn find_key(
         &self,
         name: &str,
@@ -169,11 +170,12 @@ impl<A: Memory> Registry<A> {
     ) -> Option<&PreparedKey<A>>
         ensures { option_copied result ≡ key_at self.now name.now algorithm }
     {
-        self.find_key_among(self.supported, name, algorithm)
+        self.find_key_among(self.supported(), name, algorithm)
     }
 
-    /// Returns the key of a registered user for an algorithm, if these algorithms are supported in
-    /// place of those of the registry.
+    /// Returns the key of a registered user for an algorithm, as if the registry supported these
+    /// algorithms in place of its own.
+    #[tactic(auto, using(crate::proofs::UserMaps::key_supported, crate::proofs::UserMaps::key_unsupported))]
     pub(crate) fn find_key_among(
         &self,
         supported: AlgorithmSet,
@@ -183,9 +185,19 @@ impl<A: Memory> Registry<A> {
         ensures { option_copied result
             ≡ key_at (record self.now { algorithms = supported }) name.now algorithm }
     {
-        if !supported.contains(algorithm) {
-            return None;
+        if supported.contains(algorithm) {
+            self.find_stored_key(name, algorithm)
+        } else {
+            None
         }
+    }
+
+    /// Returns the key of a registered user for an algorithm, whether or not the algorithm is
+    /// supported. Returns `None` if there is no such user or key.
+    fn find_stored_key(&self, name: &str, algorithm: IntegrityAlgorithm) -> Option<&PreparedKey<A>>
+        ensures { option_copied result
+            ≡ key_at (record self.now { algorithms = AlgorithmSet.Both }) name.now algorithm }
+    {
         match self.users.get(name) {
             Some(user) => user.find_key(algorithm),
             None => None,

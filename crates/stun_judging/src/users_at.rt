@@ -24,8 +24,11 @@ impl<'a, 'r, A: Allocator> Model for UsersAt<'a, 'r, A> {
     ghost use Rattle.std.specs.Option.{ForSome, option_map_or};
     ghost use Rattle.std.specs.Prelude.{◌≡◌};
     ghost use Rattle.stun_judging.specs.Registered.{Registered};
+    ghost use Rattle.stun_judging.specs.code.Registered.{coded_registered};
 
     ghost Value = { Registered };
+
+    ghost coded = { coded_registered };
 
     ghost view = { λ at. record at.realm.now {
       secrets = option_map_or (λ users. users.now.secrets) at.users map.empty;
@@ -50,12 +53,14 @@ impl<'a, 'r, A: Memory> UsersAt<'a, 'r, A> {
     pub(crate) fn of(realm: &'r Registry<A>, table: &'a Registry<A>) -> Self
         ensures { result ≡ at_realm realm.entry.now table.entry.now }
     {
-        let users = if table.realm() == realm.realm() {
-            Some(table)
+        if table.realm() == realm.realm() {
+            UsersAt {
+                realm,
+                users: Some(table),
+            }
         } else {
-            None
-        };
-        UsersAt { realm, users }
+            UsersAt { realm, users: None }
+        }
     }
 
     /// Returns the users of a realm that has none.
@@ -67,6 +72,7 @@ impl<'a, 'r, A: Memory> UsersAt<'a, 'r, A> {
 
     /// Returns the key of a user for an algorithm. Returns `None` if there is no such user, if the
     /// user has no key for the algorithm, or if the realm does not support it.
+    #[tactic(auto, using(crate::proofs::TableUsers::key_of_table, crate::proofs::TableUsers::key_of_nobody))]
     pub(crate) fn find_key(
         &self,
         name: &str,
@@ -82,6 +88,7 @@ impl<'a, 'r, A: Memory> UsersAt<'a, 'r, A> {
 
     /// Returns the name of the user whose name has this hash at the realm, or `None` if there is no
     /// such user. If several names have the hash, returns the first of them in byte order.
+    #[tactic(auto, using(crate::proofs::TableUsers::name_of_table, crate::proofs::TableUsers::name_of_nobody))]
     pub(crate) fn find_name_by_hash(&self, hash: &[u8; 32]) -> Option<&'a str>
         ensures { option_copied result ≡ name_with_hash self.now hash.now }
     {

@@ -83,7 +83,7 @@ impl<A: Memory> Server<A> {
             ≡ false → IsOk result }
         ensures granted { A.grants → IsOk result }
     {
-        self.judge_datagram_with_cause(bytes, from, now, &Judges::of(user))
+        self.judge_datagram_with_cause(bytes, from, now, &Judges::from_user(user))
     }
 
     /// Returns the outcome of a datagram, and the cause of its refusal, or `None` if it is not

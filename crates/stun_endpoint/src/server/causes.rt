@@ -128,7 +128,7 @@ impl<A: Memory> Server<A> {
             ≡ false → IsOk result }
         ensures granted { A.grants → IsOk result }
     {
-        self.find_cause(bytes, from, now, &Judges::of(user))
+        self.find_cause(bytes, from, now, &Judges::from_user(user))
     }
 
     /// Returns why a datagram is refused, or `None` if it is not refused.

@@ -154,7 +154,7 @@ impl<A: Memory> Server<A> {
         ensures granted { A.grants → IsOk result }
     {
         let mut buffer = Vec::new(self.alloc);
-        self.judge_lookup(lookup, &Judges::of(user), &mut buffer)
+        self.judge_lookup(lookup, &Judges::from_user(user), &mut buffer)
     }
 
     /// Judges the request of a look-up like `resume`, with the user in this table whom the request
@@ -197,7 +197,7 @@ impl<A: Memory> Server<A> {
         ensures err { OnErr result (buffer.new.items ≡ []) }
         ensures granted { A.grants → IsOk result }
     {
-        self.judge_lookup_into(lookup, &Judges::of(user), buffer)
+        self.judge_lookup_into(lookup, &Judges::from_user(user), buffer)
     }
 
     /// Returns the outcome of a request, or `Lookup` if the request waits for its user. A response

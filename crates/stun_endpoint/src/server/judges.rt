@@ -29,7 +29,7 @@ pub(crate) enum Judges<'a, A: Allocator> {
 
 impl<'a, A: Memory> Judges<'a, A> {
     /// Returns one user, or nobody if `user` is `None`.
-    pub(crate) fn of(user: Option<&'a LongTermServerUser<A>>) -> Self
+    pub(crate) fn from_user(user: Option<&'a LongTermServerUser<A>>) -> Self
         ensures { users_of result ≡ option_copied user.entry }
     {
         match user {

@@ -113,7 +113,7 @@ impl<A: Memory> Server<A> {
         ensures granted { A.grants → IsOk result }
     {
         let mut buffer = Vec::new(self.alloc);
-        self.judge_datagram(bytes, from, now, &Judges::of(user), &mut buffer)
+        self.judge_datagram(bytes, from, now, &Judges::from_user(user), &mut buffer)
     }
 
     /// Judges a datagram like `receive`, and writes the response into a buffer, replacing its
@@ -165,7 +165,7 @@ impl<A: Memory> Server<A> {
         ensures granted { A.grants → IsOk result }
         ensures err { OnErr result (buffer.new.items ≡ []) }
     {
-        self.judge_datagram_into(bytes, from, now, &Judges::of(user), buffer)
+        self.judge_datagram_into(bytes, from, now, &Judges::from_user(user), buffer)
     }
 
     /// Returns the outcome of a datagram, and writes the bytes of a response into the buffer.

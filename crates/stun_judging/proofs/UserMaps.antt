@@ -126,8 +126,10 @@ key_supported r supported name a h =
     (λ (user : RegisteredUser). key_if b a user.username r.realm user.secret)
     (user_named r name)) (in_both a ∙ sym h)
 
-no_key : (o : Option RegisteredUser)
-    → option_and_then (λ (user : RegisteredUser). None {A = List ℕ}) o ≡ None
+abbrev none_of : RegisteredUser → Option (List ℕ)
+none_of user = None
+
+no_key : (o : Option RegisteredUser) → option_and_then none_of o ≡ None
 no_key None = refl
 no_key (Some user) = refl
 

@@ -71,7 +71,8 @@ RENAMED = {"NO_FINGERPRINT": "ABSENT", "RIGHT_FINGERPRINT": "RIGHT", "WRONG_FING
            "CAUSE_UNKNOWN_ATTRIBUTE": "UNKNOWNATTRIBUTE", "DROP_NOT_VERIFIED": "NOTVERIFIED",
            "DROP_UNANSWERABLE_CHALLENGE": "UNANSWERABLECHALLENGE",
            "DROP_WEAKER_CHALLENGE": "WEAKERCHALLENGE", "DROP_OUT_OF_MEMORY": "OUTOFMEMORY",
-           "DROP_LATE_CHALLENGE": "LATECHALLENGE", "DROP_REFUSED": "REFUSED"}
+           "DROP_LATE_CHALLENGE": "LATECHALLENGE", "DROP_REFUSED": "REFUSED",
+           "DROP_OTHER_REALM": "OTHERREALM"}
 RENAMING = ("fingerprint", "stunp_drop", "stunp_cause", "stunp_drop of ICE",
             "stunp_drop of clients")
 # Lengths of the header and a kind, each with the constant of the sources that it is.

@@ -365,8 +365,9 @@ pub enum DropReason {
     /// with the same attributes would get a 401.
     UnauthenticatedIndication,
     /// The [`Users`] or the [`User`] that the call was passed are of a realm with another name than
-    /// the server's, and their keys depend on that name. The server drops every datagram that it is
-    /// passed with them, so that you notice the mistake.
+    /// the server's, and their keys depend on that name. So that you notice the mistake, the server
+    /// drops every datagram that it is passed with them, except for unsigned Binding requests if it
+    /// answers these without users ([`open_binding`](ServerBuilder::open_binding)).
     OtherRealm,
 }
 

@@ -291,10 +291,10 @@ impl ServerBuilder {
 /// whatever the settings of the server that made the [`Users`] or the [`User`], so these stay.
 ///
 /// Only the realm ties users to a server, because their keys depend on its name. A server that is
-/// passed users of another realm drops every datagram, with
-/// [`DropReason::OtherRealm`](super::DropReason::OtherRealm). To change the realm, make a new table
-/// with [`users`](Self::users) of the new server, add the users again, and replace the server and
-/// the table together, for example as one `Arc<(Server, Users)>`.
+/// passed users of another realm drops what it would judge with them
+/// ([`DropReason::OtherRealm`](super::DropReason::OtherRealm)). To change the realm, make a new
+/// table with [`users`](Self::users) of the new server, add the users again, and replace the server
+/// and the table together, for example as one `Arc<(Server, Users)>`.
 pub struct Server {
     core: server::Server<Global>,
     realm: String,
@@ -398,7 +398,8 @@ impl Server {
     ///
     /// - Bytes that are not a message, messages with a wrong FINGERPRINT, and requests and
     ///   indications with a method that you do not serve ([`methods`](ServerBuilder::methods)) are
-    ///   dropped.
+    ///   dropped. If `users` are of another realm, so is every datagram except for unsigned Binding
+    ///   requests that are answered because of [`open_binding`](ServerBuilder::open_binding).
     /// - A request gets the response of the first of these lines that applies (RFC 8489, sections
     ///   6.3.1 and 9.2.4):
     ///   - Success or 420, neither of them signed: it is an unsigned Binding request, and you
@@ -538,7 +539,8 @@ impl Server {
     /// that you looked up, or `None` if there is no such user.
     ///
     /// If the name of `user` differs from the name in the request, as after a look-up that ignores
-    /// case, the client gets a 401. If `user` is of another realm, every datagram is dropped.
+    /// case, the client gets a 401. If `user` is of another realm, the datagram is dropped
+    /// ([`OtherRealm`](super::DropReason::OtherRealm)).
     pub fn receive_for<'a>(
         &'a self,
         bytes: &'a [u8],

@@ -543,12 +543,14 @@ typedef enum stunp_credentials {
  *
  * The texts end with a zero byte.
  *
- * To change settings, create another server with the same secret. If `realm`, `algorithms` or
- * `anonymous_username` differ, also create a new table of users (stunp_endpoint_users_new). Nonces
- * depend on `algorithms` and `anonymous_username`, so if one of these differs, each client gets one
- * 401 or 438, and signs its request again. But if you remove STUNP_SHA256 or forbid hashes, a
- * client of this library that has succeeded with HMAC-SHA256 or with a hash drops these challenges
- * (STUNP_DROP_WEAKER_CHALLENGE): its next request times out, and the request after that succeeds.
+ * To change settings, create another server with the same secret. The tables of users stay, unless
+ * `realm` differs: then create a new table (stunp_endpoint_users_new). Nonces depend on
+ * `algorithms` and `anonymous_username`, so if one of these differs, each client gets one 401 or
+ * 438, and signs its request again. But if you remove STUNP_SHA256 or forbid hashes, a client of
+ * this library that has succeeded with HMAC-SHA256 or with a hash drops these challenges
+ * (STUNP_DROP_WEAKER_CHALLENGE): its next request times out, and the request after that succeeds. A
+ * server that supports only HMAC-SHA1 offers no list of algorithms, and refuses a signed request
+ * that has one.
  *
  * An attacker can send requests with the source address of somebody else, who then gets the
  * answers. If the realm has 11 bytes, a request of 20 bytes causes a challenge of 96 bytes, or of
@@ -614,6 +616,10 @@ typedef enum stunp_drop {
                                           * of the server or the client require it (section 7.3) */
     STUNP_DROP_UNKNOWN_ATTRIBUTE = 4, /* the datagram is an indication with an attribute that must
                                        * be understood but is not */
+    /* Only with long-term credentials. */
+    STUNP_DROP_OTHER_REALM = 16,      /* the table of users is for another `realm` than the server,
+                                       * and its keys depend on the realm. The server drops every
+                                       * datagram that it is passed with this table */
     /* Only with short-term credentials. */
     STUNP_DROP_NOT_SIGNED = 8,        /* the datagram is an indication that no user has signed.
                                        * `code` is the error with which a request with the same
@@ -997,12 +1003,11 @@ STUNP_INLINED void stunp_endpoint_server_free(stunp_endpoint_server *server);
 
 /* ---- Users
  *
- * A table of users is made for the `realm`, the `algorithms` and the `anonymous_username` of a
- * server, and works with every server that has the same three settings. If you change one of them,
- * make a new table and add the users again. No call detects a table that was made for other
- * settings: the server may then refuse users who have the right password, or accept a request whose
- * list of algorithms is not the one that it offered. With short-term credentials there are no such
- * settings, so a table works with every server that has short-term credentials. */
+ * A table of users is made for the `realm` of a server, and works with every server of this realm:
+ * it has each user's keys for both algorithms, and each server judges by its own settings. A server
+ * of another realm drops every datagram that it is passed with the table (STUNP_DROP_OTHER_REALM).
+ * A table of users with short-term credentials works with every server that has short-term
+ * credentials. */
 
 /* Creates an empty table of users like stunp_endpoint_users_new, but nothing else may use the
  * handle of the server during the call. The call does not change this handle.

@@ -224,6 +224,7 @@ STUNP_INLINED const char *stunp_drop_text(stunp_drop why) {
     case STUNP_DROP_WEAKER_CHALLENGE: return "it is a weaker challenge than one before";
     case STUNP_DROP_OUT_OF_MEMORY: return "an allocation failed";
     case STUNP_DROP_LATE_CHALLENGE: return "it is a challenge that arrived too late";
+    case STUNP_DROP_OTHER_REALM: return "the users are of another realm than the server";
     case STUNP_DROP_REFUSED: return "it repeats the challenge for which the request is signed";
     default: return "it is not dropped";
     }

@@ -89,10 +89,13 @@ class Server(Responder):
 
     def agreed(self, values):
         """The algorithm that both sides agree on, or None."""
+        both = (values.get(stun.PASSWORD_ALGORITHMS), values.get(stun.PASSWORD_ALGORITHM))
+        if stun.SHA256 not in self.algorithms and both != (None, None):
+            # A server of HMAC-SHA1 alone offers no list.
+            return None
         bits = bits_of(values[stun.NONCE])
         if bits is None or not bits[0] & 0x80:
             return stun.SHA1
-        both = (values.get(stun.PASSWORD_ALGORITHMS), values.get(stun.PASSWORD_ALGORITHM))
         if both == (None, None):
             return stun.SHA1
         choices = {b"\0\1\0\0": stun.SHA1, b"\0\2\0\0": stun.SHA256}

@@ -13,7 +13,8 @@ ENDPOINT_REFUSALS = {400: "BadRequest", 401: "Unauthenticated", 420: "UnknownAtt
 ENDPOINT_DROPS = {1: "NotStun", 2: "Malformed", 3: "WrongFingerprint", 4: "UnknownAttribute",
                   5: "OtherMethod", 6: "NotAsked", 7: "WrongSignature", 9: "NotVerified",
                   10: "UnanswerableChallenge", 11: "WeakerChallenge", 12: "OutOfMemory",
-                  13: "MissingFingerprint", 14: "LateChallenge", 15: "Refused"}
+                  13: "MissingFingerprint", 14: "LateChallenge", 15: "Refused",
+                  16: "OtherRealm"}
 # What stunp_received begins with, and where its name is.
 RECEIVED = struct.Struct("@N3I2H3N")
 NAME_IN_RECEIVED = 130

@@ -366,6 +366,11 @@ pub enum DropReason {
     /// not the name of a user, or the signature is not made with the user's password. A request
     /// with the same attributes would get a 401.
     UnauthenticatedIndication,
+    /// The [`Users`] or the [`User`] that the call was passed are of a realm with another name than
+    /// the server's, and their keys depend on that name. So that you notice the mistake, the server
+    /// drops every datagram that it is passed with them, except for unsigned Binding requests if it
+    /// answers these without users ([`open_binding`](ServerBuilder::open_binding)).
+    OtherRealm,
 }
 
 impl DropReason {
@@ -385,10 +390,11 @@ impl DropReason {
         DropReason::OtherMethod,
         DropReason::UnsignedIndication,
         DropReason::UnauthenticatedIndication,
+        DropReason::OtherRealm,
     ];
 
     /// The number of reasons.
-    pub const COUNT: usize = 14;
+    pub const COUNT: usize = 15;
 
     /// Returns the index of this reason in [`ALL`](Self::ALL), for an array of counters.
     #[must_use]
@@ -414,6 +420,7 @@ impl DropReason {
             DropReason::OtherMethod => "OtherMethod",
             DropReason::UnsignedIndication => "UnsignedIndication",
             DropReason::UnauthenticatedIndication => "UnauthenticatedIndication",
+            DropReason::OtherRealm => "OtherRealm",
         }
     }
 }
@@ -435,6 +442,7 @@ impl fmt::Display for DropReason {
             DropReason::OtherMethod => "its method is not served",
             DropReason::UnsignedIndication => "an indication is not signed, or names no user",
             DropReason::UnauthenticatedIndication => "an indication is not signed by a user",
+            DropReason::OtherRealm => "the users are of another realm than the server",
         })
     }
 }
@@ -447,6 +455,7 @@ impl From<received::DropReason> for DropReason {
             received::DropReason::WrongFingerprint => DropReason::WrongFingerprint,
             received::DropReason::MissingFingerprint => DropReason::MissingFingerprint,
             received::DropReason::UnknownAttribute => DropReason::UnknownAttribute,
+            received::DropReason::OtherRealm => DropReason::OtherRealm,
             received::DropReason::NotSigned(Refusal::BadRequest) => DropReason::UnsignedIndication,
             received::DropReason::NotSigned(_) => DropReason::UnauthenticatedIndication,
         }

@@ -458,6 +458,43 @@ static void causes(void) {
     free_realm(&realm);
 }
 
+/* A server of another realm drops each datagram that it is passed with a table, whatever the
+ * datagram is. A server of the same realm accepts what its own settings offer, even if the table was
+ * made for a server with other settings. */
+static void users_of_other_servers(void) {
+    stunp_endpoint_server_settings settings = settings_of(NULL, 0), other = settings;
+    struct realm realm = realm_of(&settings), elsewhere, weaker;
+    other.realm = "other", elsewhere = realm_of(&other);
+    other = settings, other.algorithms = STUNP_SHA1, weaker = realm_of(&other);
+    take_challenge(&realm, NOW);
+    struct message good = request(&realm, 2, 0, false), plain = message_of(STUNP_REQUEST, 3);
+    const struct message *messages[] = {&good, &plain};
+    struct realm mixed = {realm.server, elsewhere.users, realm.client};
+    for (int i = 0; i < 2; i++) {
+        stunp_received received = STUNP_INIT(stunp_received);
+        want("cause", cause_of(&mixed, messages[i], &from, NOW, 0), 0);
+        want("kind", judge(&mixed, messages[i], NOW, sizeof out, &received), STUNP_DROPPED);
+        want("reason", received.why, STUNP_DROP_OTHER_REALM);
+    }
+    stunp_received received = STUNP_INIT(stunp_received);
+    want("no message", stunp_endpoint_server_receive(&mixed.server, &mixed.users, NULL, 0, &from,
+         NOW, out, sizeof out, &received), STUNP_DROPPED);
+    want("reason", received.why, STUNP_DROP_OTHER_REALM);
+    want("text", strcmp(stunp_drop_text(STUNP_DROP_OTHER_REALM),
+                        "the users are of another realm than the server"), 0);
+    /* A table for HMAC-SHA1 alone serves a server of both algorithms, and the other way round. */
+    mixed.users = weaker.users;
+    want("both", judge(&mixed, &good, NOW, sizeof out, &received), STUNP_IS_REQUEST);
+    want("algorithm", received.algorithm, STUNP_SHA256);
+    mixed.server = weaker.server, mixed.users = realm.users;
+    want("a list", cause_of(&mixed, &good, &from, NOW, 438), STUNP_CAUSE_OTHER_ALGORITHMS);
+    take_challenge(&weaker, NOW);
+    good = request(&weaker, 4, 0, false);
+    want("HMAC-SHA1", judge(&mixed, &good, NOW, sizeof out, &received), STUNP_IS_REQUEST);
+    want("algorithm", received.algorithm, STUNP_SHA1);
+    free_realm(&realm), free_realm(&elsewhere), free_realm(&weaker);
+}
+
 /* ---- Batches */
 
 enum { BATCH = 12 };
@@ -1127,6 +1164,7 @@ int main(void) {
     kinds();
     causes();
     causes_beside_errors();
+    users_of_other_servers();
     batches();
     for (uint32_t algorithms = 0; algorithms <= 3; algorithms++) {
         replies(algorithms, true);

@@ -79,7 +79,7 @@ static void texts(const char *(*text_of)(int64_t), int64_t last) {
 int main(void) {
     names(stunp_attribute_name, attributes, COUNT(attributes), 65536);
     names(stunp_method_name, methods, COUNT(methods), 4096);
-    texts(drop, STUNP_DROP_REFUSED);
+    texts(drop, STUNP_DROP_OTHER_REALM);
     texts(stunp_cause_text, STUNP_CAUSE_UNKNOWN_ATTRIBUTE);
     texts(result, STUNP_RESULT_TOO_MANY_CHALLENGES);
 

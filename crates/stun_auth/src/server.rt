@@ -231,8 +231,9 @@ impl<A: Memory> LongTermServerAuth<A> {
         }
     }
 
-    /// Adds a user with a key for each supported algorithm (RFC 8489, section 9.2.2), or replaces
-    /// the password or keys of an existing user.
+    /// Adds a user with a key for each algorithm (RFC 8489, section 9.2.2), or replaces the
+    /// password or keys of an existing user. The server uses the keys for the algorithms that it
+    /// supports, including algorithms that it supports later.
     ///
     /// A name longer than 513 bytes is accepted, but only a USERHASH can name such a user (section
     /// 14.3).
@@ -280,11 +281,11 @@ impl<A: Memory> LongTermServerAuth<A> {
         self.realm.algorithms()
     }
 
-    /// Sets the supported algorithms, and makes the keys of each user anew. Of a user's stored
-    /// keys, the server then uses only the keys for these algorithms. The call does not allocate.
+    /// Sets the supported algorithms. Of each user's keys, the server then uses only the keys for
+    /// these algorithms. The call does not allocate.
     ///
-    /// Call it before you add users and before the first message arrives, for the reasons that
-    /// `set_supported_integrity` gives.
+    /// Call it before the first message arrives, for the reason that `set_supported_integrity`
+    /// gives.
     pub fn set_algorithms(&mut self, algorithms: AlgorithmSet)
         ensures { self.new ≡ record self.old {
           registered = record self.old.registered { algorithms = algorithms };
@@ -293,9 +294,7 @@ impl<A: Memory> LongTermServerAuth<A> {
         self.realm.set_algorithms(algorithms);
     }
 
-    /// Adds a supported algorithm, and makes the keys of each user anew. It does not allocate.
-    ///
-    /// With 100,000 users this takes most of a second, so call it before you add users.
+    /// Adds a supported algorithm. It does not allocate.
     pub fn add_supported_integrity(&mut self, algorithm: IntegrityAlgorithm)
         ensures { self.new ≡ record self.old {
           registered = record self.old.registered {
@@ -309,9 +308,8 @@ impl<A: Memory> LongTermServerAuth<A> {
     /// Makes this the only supported algorithm. Each user then has only a key for this algorithm,
     /// and a user whose stored keys include none for it has no key. The call does not allocate.
     ///
-    /// Call it before you add users, because it makes the keys of each user anew. Call it also
-    /// before the first message arrives, because messages to a client that uses another algorithm
-    /// can no longer be signed until you call `remove_client`.
+    /// Call it before the first message arrives, because messages to a client that uses another
+    /// algorithm can no longer be signed until you call `remove_client`.
     pub fn set_supported_integrity(&mut self, algorithm: IntegrityAlgorithm)
         ensures { self.new ≡ record self.old {
           registered = record self.old.registered { algorithms = only algorithm };

@@ -4,8 +4,7 @@ use Rattle.std.proofs.Common.{sym, ap, subst}
 use Rattle.std.specs.Prelude.{◌||◌, ◌==◌, cond, nat_lt, not}
 use Rattle.std.specs.declared.net.socket_addr.SocketAddr.{SocketAddr}
 use Rattle.stun_judging.specs.Realm.{RealmSeen}
-use Rattle.stun_endpoint.specs.Causes.{cause_of}
-use Rattle.stun_endpoint.specs.Judged.{realm_of_table}
+use Rattle.stun_endpoint.specs.Causes.{cause_for}
 use Rattle.stun_endpoint.specs.Settings.{Settings}
 use Rattle.stun_endpoint.specs.declared.server.causes.Cause.{Cause}
 use Rattle.stun_handles.specs.Addresses.{socket_address}
@@ -24,16 +23,16 @@ use Rattle.stun_c_endpoint.specs.declared.received.Received.{Received}
 
 module _ (from : Address) (seconds : ℕ) (bytes : List ℕ) where
   by_address : (s : Settings) (u : RealmSeen) (o : Option SocketAddr) (cause : Option Cause)
-      → at_address o (λ from. Ok (cause_of s (realm_of_table u) from seconds bytes)) ≡ Ok cause
+      → at_address o (λ from. Ok (cause_for s (Some u.registered) from seconds bytes)) ≡ Ok cause
       → cause_by s u o seconds bytes ≡ cause_number cause
   by_address s u None cause h = cc
   by_address s u (Some at) cause h =
-      let same : cause_of s (realm_of_table u) at seconds bytes ≡ cause = cc in
+      let same : cause_for s (Some u.registered) at seconds bytes ≡ cause = cc in
       ap cause_number same
 
   by_time : (s : Settings) (u : RealmSeen) (is_late : Bool) (cause : Option Cause)
       → cond is_late (Err BadArgument) (at_address (socket_address from)
-      (λ from. Ok (cause_of s (realm_of_table u) from seconds bytes))) ≡ Ok cause
+      (λ from. Ok (cause_for s (Some u.registered) from seconds bytes))) ≡ Ok cause
       → cond is_late 0 (cause_by s u (socket_address from) seconds bytes) ≡ cause_number cause
   by_time s u true cause h = cc
   by_time s u false cause h = by_address s u (socket_address from) cause h

@@ -12,6 +12,7 @@ reason_numbered n code =
     else if n == 3 then Some reason.WrongFingerprint
     else if n == 4 then Some reason.UnknownAttribute
     else if n == 13 then Some reason.MissingFingerprint
+    else if n == 16 then Some reason.OtherRealm
     else if code == 400 then Some (reason.NotSigned refused.BadRequest)
     else if code == 401 then Some (reason.NotSigned refused.Unauthenticated)
     else if code == 420 then Some (reason.NotSigned refused.UnknownAttribute)
@@ -23,6 +24,7 @@ reason_again reason.Malformed = refl
 reason_again reason.WrongFingerprint = refl
 reason_again reason.MissingFingerprint = refl
 reason_again reason.UnknownAttribute = refl
+reason_again reason.OtherRealm = refl
 reason_again (reason.NotSigned refused.BadRequest) = refl
 reason_again (reason.NotSigned refused.Unauthenticated) = refl
 reason_again (reason.NotSigned refused.UnknownAttribute) = refl

@@ -24,7 +24,7 @@ use Rattle.stun_types.specs.Writing.{with_integrity}
 use Rattle.stun_extra.specs.Unknown.{unknown_types}
 use Rattle.stun_endpoint.specs.Answers.{Signature}
 use Rattle.stun_endpoint.specs.Judged.{IsAcceptedAt, IsAcceptedByPrevious, IsAcceptedUnder, Realm}
-use Rattle.stun_endpoint.specs.Judged.{judged, key_of_client, realm_of_table}
+use Rattle.stun_endpoint.specs.Judged.{has_other_realm, judged, key_of_client, realm_of_user}
 use Rattle.stun_endpoint.specs.Nonces.{epoch_of}
 use Rattle.stun_endpoint.specs.Received.{AcceptedRequest, Answer, Outcome, by_class, by_verdict}
 use Rattle.stun_endpoint.specs.Received.{answered, dropped, indicated, is_empty, or_handed}
@@ -37,6 +37,7 @@ use Rattle.stun_endpoint.specs.Settings.{Settings}
 use Rattle.stun_endpoint.specs.ShortTerm as short
 use Rattle.stun_endpoint.specs.ShortTerm.{Keys, Signer, received_signed, signature_of, signer_of}
 use Rattle.stun_endpoint.specs.declared.received.DropReason.{DropReason}
+use Rattle.stun_endpoint.specs.declared.received.DropReason.TheVariants.{OtherRealm}
 use Rattle.stun_endpoint.specs.declared.received.Refusal.{Refusal}
 use Rattle.stun_endpoint.proofs.HandedLemmas.{handed_is_accepted}
 use Rattle.stun_endpoint.proofs.SignerLemmas.{signed-iff}
@@ -90,9 +91,9 @@ decided_by bytes key (Some a) is some = (a, decides bytes key a is)
 module _ (s : Settings) (realm : Realm) (from : SocketAddr) (now : ℕ) (bytes : List ℕ) where
   under : (secret : List ℕ) (epoch : ℕ) (client : ClientSeen)
       → IsAcceptedUnder s realm secret from epoch (reading_of bytes) client → IsDecided bytes
-  under secret zero client is = decided_by bytes is.key _ refl is.digest
-  under secret (suc e) client (inl is) = decided_by bytes is.key _ refl is.digest
-  under secret (suc e) client (inr is) = decided_by bytes is.key _ refl is.digest
+  under secret zero client is = decided_by bytes is.accepted.key _ refl is.accepted.digest
+  under secret (suc e) client (inl is) = decided_by bytes is.accepted.key _ refl is.accepted.digest
+  under secret (suc e) client (inr is) = decided_by bytes is.accepted.key _ refl is.accepted.digest
 
   by_previous : (secret : Option (List ℕ)) (epoch : ℕ) (client : ClientSeen)
       → IsAcceptedByPrevious s realm secret from epoch (reading_of bytes) client → IsDecided bytes
@@ -264,6 +265,13 @@ realm_request (indicated m) client y h = cc
 realm_request (responded m) client y h = cc
 realm_request (dropped why) client y h = cc
 
+-- users of another realm have no request
+at_own_realm : (other : Bool) (o : Outcome) (client : Option ClientSeen) (y : TheReply)
+    → of_realm (cond other (dropped OtherRealm) o) ≡ told.requested client y
+    → of_realm o ≡ told.requested client y
+at_own_realm false o client y h = h
+at_own_realm true o client y h = cc
+
 users_request : (o : short.ShortTermOutcome) (client : Option ClientSeen) (y : TheReply)
     → of_users o ≡ told.requested client y
     → (q : AcceptedRequest) × (o ≡ short.requested q) × (Some q.client ≡ client) × (q.reply ≡ y)
@@ -287,8 +295,11 @@ signs_for : (judge : Judge) (from : SocketAddr) (seconds : ℕ) (bytes : List �
     → outcome_by judge from seconds bytes ≡ told.requested client y
     → SignsForUser judge (told_of (told.requested client y) r)
 signs_for (by_realm s u) from seconds bytes client y r h =
-    let realm = realm_of_table u in
-    let one = realm_request (received_by s realm from seconds bytes) client y h in
+    let realm = realm_of_user s (Some u.registered) in
+    let one =
+    realm_request (received_by s realm from seconds bytes) client y
+    (at_own_realm (has_other_realm s (Some u.registered))
+    (received_by s realm from seconds bytes) client y h) in
     let by = signed_for_client s realm from seconds bytes one.0 one.1 in
     by_client (by_realm s u) one.0 client y r one.2 one.3 (λ key has.
     signs_under one.0.reply by.0 key

@@ -8,8 +8,7 @@ use Rattle.std.proofs.Math.Seq.{take-append_seam}
 use Rattle.std.proofs.lemmas.List.{take_all}
 use Rattle.std.specs.declared.net.socket_addr.SocketAddr.{SocketAddr}
 use Rattle.stun_judging.specs.Named.{Named, by_hash, by_name}
-use Rattle.stun_endpoint.specs.Causes.{cause_of}
-use Rattle.stun_endpoint.specs.Judged.{realm_of_table}
+use Rattle.stun_endpoint.specs.Causes.{cause_for}
 use Rattle.stun_endpoint.specs.Lookups.{Identification, LookupSeen, identified_by, looked_up}
 use Rattle.stun_endpoint.specs.Lookups.{done as done_at_once}
 use Rattle.stun_endpoint.specs.Settings.{Settings}
@@ -207,10 +206,11 @@ failed_is (Err why) result out after x told call e = failed_as out after x told 
 pub cause_by : (realm : OfRealm) (seconds : ℕ) (bytes : List ℕ) (n : ℕ) (late : Bool)
     (o : Option SocketAddr)
     → CausedAs (if late then Err r.BadArgument else at_address o
-    (λ from. Ok (cause_of realm.settings (realm_of_table realm.users) from seconds bytes))) (pos n)
+    (λ from. Ok (cause_for realm.settings (Some realm.users.registered) from seconds bytes)))
+    (pos n)
     → (address : SocketAddr) × (o ≡ Some address)
     × (n ≡ cause_number
-    (cause_of realm.settings (realm_of_table realm.users) address seconds bytes))
+    (cause_for realm.settings (Some realm.users.registered) address seconds bytes))
 cause_by realm seconds bytes n true o call = no_refusal n r.BadArgument call
 cause_by realm seconds bytes n false None call = no_refusal n r.BadArgument call
 cause_by realm seconds bytes n false (Some address) (inl is) = (address, refl, same_number n _ is)

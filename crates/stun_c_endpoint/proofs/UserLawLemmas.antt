@@ -12,14 +12,16 @@ use Rattle.stun_judging.specs.Registered.{name_cmp, stored_key}
 use Rattle.stun_judging.specs.Registered.{with_user, with_user_by_keys, without_user}
 use Rattle.stun_judging.specs.Realm.{RealmSeen}
 use Rattle.stun_judging.specs.declared.stored_keys.StoredKeys.{StoredKeys}
+use Rattle.stun_judging.proofs.TableUsers.{at_same}
 use Rattle.stun_judging.proofs.UserKeys.{key-added, key-by_keys, key-by_others, key-by_others_keys}
 use Rattle.stun_judging.proofs.UserKeys.{key-of_others, key-removed, other_name, same_name}
 use Rattle.stun_base.specs.Credentials.{NameAndPassword}
 use Rattle.stun_base.specs.Keys.{long_term_key}
 use Rattle.stun_base.specs.declared.keys.algorithm.IntegrityAlgorithm.{IntegrityAlgorithm}
+use Rattle.stun_endpoint.specs.Judged.{users_at}
 use Rattle.stun_endpoint.specs.Realm.{table_of}
 use Rattle.stun_endpoint.specs.Responding.{Responding}
-use Rattle.stun_endpoint.specs.Settings.{Settings}
+use Rattle.stun_endpoint.specs.Settings.{Settings, registered_of}
 use Rattle.stun_endpoint.specs.ShortTerm.{Keys}
 use Rattle.stun_handles.specs.Answers.{text_refusal, texts_refusal}
 use Rattle.stun_handles.specs.Keys.{key_given, keys_given}
@@ -357,6 +359,14 @@ found_judge s name password sha1 sha256 judge h =
     (left_past s (name_refusal name) _ judge
     (left_past s (texts_refusal name password) _ judge h)))
 
+-- a table of the server has the same keys at the realm of the server
+own_key : (s : Settings) (u : RealmSeen) (name : List ℕ) (a : IntegrityAlgorithm)
+    → record (registered_of s) { secrets = u.registered.secrets } ≡ u.registered
+    → key_at (users_at s (Some u.registered)) name a ≡ key_at u.registered name a
+own_key s u name a is =
+    ap (λ r. key_at r name a)
+    (at_same (registered_of s) u.registered (ap (λ (r : Registered). r.realm) (sym is)) ∙ is)
+
 pub found_key : (s : Settings) (name password sha1 sha256 : List ℕ) (judge : Judge)
     (agreed : IntegrityAlgorithm)
     → judge_of_found name password true sha1 sha256 (Some (kind.Server s)) ≡ Ok judge
@@ -365,6 +375,7 @@ pub found_key : (s : Settings) (name password sha1 sha256 : List ℕ) (judge : J
     else None)
 found_key s name password sha1 sha256 judge agreed h =
     ap (λ j. key_of_user j name agreed) (found_judge s name password sha1 sha256 judge h)
+    ∙ own_key s (added (table_of s) name password) name agreed refl
     ∙ (has_added (table_of s).registered name password).own agreed
 
 pub nobody_else : (s : Settings) (name password sha1 sha256 other : List ℕ) (judge : Judge)
@@ -373,5 +384,6 @@ pub nobody_else : (s : Settings) (name password sha1 sha256 other : List ℕ) (j
     → other ≢ name → key_of_user judge other agreed ≡ None
 nobody_else s name password sha1 sha256 other judge agreed h apart =
     ap (λ j. key_of_user j other agreed) (found_judge s name password sha1 sha256 judge h)
+    ∙ own_key s (added (table_of s) name password) other agreed refl
     ∙ (has_added (table_of s).registered name password).others other agreed apart
     ∙ no_key s other agreed

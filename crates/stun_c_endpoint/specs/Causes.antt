@@ -2,8 +2,7 @@
 use Rattle.std.specs.Prelude.{◌≡◌, ◌⊎◌, ℕ, ℤ, pos, List, ◌||◌, ◌==◌, not, nat_lt, Option, Some}
 use Rattle.std.specs.Prelude.{None, if◌then◌else◌, Result, Ok, Err}
 use Rattle.stun_judging.specs.Realm.{RealmSeen}
-use Rattle.stun_endpoint.specs.Causes.{cause_of}
-use Rattle.stun_endpoint.specs.Judged.{realm_of_table}
+use Rattle.stun_endpoint.specs.Causes.{cause_for}
 use Rattle.stun_endpoint.specs.Settings.{Settings}
 use Rattle.stun_endpoint.specs.declared.server.causes.Cause.{Cause}
 use Rattle.stun_endpoint.specs.declared.server.causes.Cause.TheVariants.{NoSignature, Incomplete}
@@ -63,7 +62,7 @@ caused_at (Err refusal) from seconds bytes = Err refusal
 caused_at (Ok realm) from seconds bytes =
     if nat_lt LAST_SECOND seconds then Err BadArgument
     else at_address (socket_address from)
-    (λ from. Ok (cause_of realm.settings (realm_of_table realm.users) from seconds bytes))
+    (λ from. Ok (cause_for realm.settings (Some realm.users.registered) from seconds bytes))
 
 -- the number of a cause, or 0 for none
 abbrev pub cause_number : Option Cause → ℕ
@@ -82,7 +81,7 @@ cause_number (Some UnknownAttribute) = 7
 abbrev pub cause_by : Settings → RealmSeen → Option SocketAddr → ℕ → List ℕ → ℕ
 cause_by s u None seconds bytes = 0
 cause_by s u (Some from) seconds bytes =
-    cause_number (cause_of s (realm_of_table u) from seconds bytes)
+    cause_number (cause_for s (Some u.registered) from seconds bytes)
 
 -- the number, given the values of two handles. Servers of other kinds have no causes, because their
 -- codes say as much; nor has a datagram that is not judged (`outcome_at`)

@@ -3,6 +3,7 @@
 use Rattle.std.specs.Prelude.{◌≡◌, ◌≤◌, ◌⊎◌, ℕ, List, take, Option, Some, None}
 use Rattle.std.specs.FinMap as map
 use Rattle.stun_judging.specs.Registered.{key_at}
+use Rattle.stun_endpoint.specs.Judged.{users_at}
 use Rattle.stun_base.specs.Algorithm.{digest_length}
 use Rattle.stun_base.specs.declared.keys.algorithm.IntegrityAlgorithm.{IntegrityAlgorithm}
 use Rattle.stun_types.specs.Integrity.{verified_algorithm}
@@ -14,10 +15,10 @@ use Rattle.stun_c_endpoint.specs.declared.received.Received.{Received}
 use Rattle.stun_c_endpoint.specs.declared.received.Reply.{Reply}
 
 -- the key that the user of a name has for the algorithm that was agreed on: with long-term
--- credentials that of the table (section 9.2.2), and with short-term credentials the password
--- (section 9.1.1)
+-- credentials that of the table, at the realm of the server (section 9.2.2), and with short-term
+-- credentials the password (section 9.1.1)
 abbrev pub key_of_user : Judge → List ℕ → IntegrityAlgorithm → Option (List ℕ)
-key_of_user (by_realm s u) name agreed = key_at u.registered name agreed
+key_of_user (by_realm s u) name agreed = key_at (users_at s (Some u.registered)) name agreed
 key_of_user (by_users s u) name agreed = map.get u name
 key_of_user (openly s) name agreed = None
 

@@ -13,9 +13,8 @@ use Rattle.stun_base.specs.Hmac.{block_of, key_block, short_key}
 use Rattle.stun_base.specs.Header.{type_field}
 use Rattle.stun_base.specs.MessageType.{method_of}
 use Rattle.stun_endpoint.specs.Answers.{Signature}
-use Rattle.stun_endpoint.specs.Judged.{realm_of_table}
 use Rattle.stun_endpoint.specs.Open.{OpenOutcome, OpenRequest, received_openly}
-use Rattle.stun_endpoint.specs.Received.{AcceptedRequest, Outcome, received_by}
+use Rattle.stun_endpoint.specs.Received.{AcceptedRequest, Outcome, received_for}
 use Rattle.stun_endpoint.specs.Responding.{Answer, OutcomeOf, Reply as TheReply}
 use Rattle.stun_endpoint.specs.Responding as plain
 use Rattle.stun_endpoint.specs.ShortTerm.{ShortTermOutcome, SignedIndication, received_signed}
@@ -24,7 +23,7 @@ use Rattle.stun_endpoint.specs.declared.received.DropReason.{DropReason}
 use Rattle.stun_endpoint.specs.declared.received.DropReason.TheVariants.{NotStun, Malformed}
 use Rattle.stun_endpoint.specs.declared.received.DropReason.TheVariants.{MissingFingerprint}
 use Rattle.stun_endpoint.specs.declared.received.DropReason.TheVariants.{WrongFingerprint}
-use Rattle.stun_endpoint.specs.declared.received.DropReason.TheVariants.{NotSigned}
+use Rattle.stun_endpoint.specs.declared.received.DropReason.TheVariants.{NotSigned, OtherRealm}
 use Rattle.stun_endpoint.specs.declared.received.DropReason.TheVariants.{UnknownAttribute}
 use Rattle.stun_endpoint.specs.declared.received.Refusal.{Refusal as Refused}
 use Rattle.std.specs.declared.net.socket_addr.SocketAddr.{SocketAddr}
@@ -59,6 +58,7 @@ drop_number Malformed = 2
 drop_number WrongFingerprint = 3
 drop_number UnknownAttribute = 4
 drop_number MissingFingerprint = 13
+drop_number OtherRealm = 16
 drop_number (NotSigned refusal) = 8
 
 -- the code with which a request with the same attributes would be refused, or 0 if the datagram is
@@ -69,6 +69,7 @@ drop_code Malformed = 0
 drop_code WrongFingerprint = 0
 drop_code UnknownAttribute = 0
 drop_code MissingFingerprint = 0
+drop_code OtherRealm = 0
 drop_code (NotSigned refusal) = code_of refusal
 
 -- the outcome at a server, given what a request and an indication are to a caller
@@ -108,7 +109,7 @@ of_open outcome = told_by told_open_request told_indication outcome
 
 abbrev pub outcome_by : Judge → SocketAddr → ℕ → List ℕ → AnyOutcome
 outcome_by (by_realm s u) from seconds bytes =
-    of_realm (received_by s (realm_of_table u) from seconds bytes)
+    of_realm (received_for s (Some u.registered) from seconds bytes)
 outcome_by (by_users s u) from seconds bytes = of_users (received_signed s u from bytes)
 outcome_by (openly s) from seconds bytes = of_open (received_openly s from bytes)
 

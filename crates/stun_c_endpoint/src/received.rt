@@ -235,6 +235,7 @@ pub fn drop_number(why: DropReason) -> u32
         DropReason::WrongFingerprint => 3,
         DropReason::UnknownAttribute => 4,
         DropReason::MissingFingerprint => 13,
+        DropReason::OtherRealm => 16,
         DropReason::NotSigned(_) => 8,
     }
 }

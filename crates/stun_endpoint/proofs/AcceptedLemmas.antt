@@ -13,8 +13,8 @@ use Rattle.stun_judging.specs.declared.refusal.VerdictRefusal.TheVariants.{Stale
 use Rattle.stun_judging.specs.Verdict.{or_before, ClientSeen, bits_differ}
 use Rattle.stun_judging.specs.Nonces.{security_bits}
 use Rattle.stun_judging.specs.Reading.{Reading}
-use Rattle.stun_judging.proofs.Accepting.{accepted_from_verdict, verdict_from_accepted}
-use Rattle.stun_judging.proofs.Accepting.{verdict_under_other}
+use Rattle.stun_judging.proofs.Accepting.{offering_from_verdict, offering_under_other}
+use Rattle.stun_judging.proofs.Accepting.{verdict_from_offering}
 use Rattle.stun_endpoint.specs.Judged.{IsAcceptedBy, IsAcceptedByPrevious, IsAcceptedUnder}
 use Rattle.stun_endpoint.specs.Judged.{Realm, judged_in, judged_under, or_previous, verdict_under}
 use Rattle.stun_endpoint.specs.Nonces.{nonce_in}
@@ -47,14 +47,12 @@ module _ (s : Settings) (realm : Realm) (from : SocketAddr) (r : Reading)
   from_verdict : (nonce : List ℕ) → verdict_under realm nonce r ≡ Ok client
       → IsAcceptedBy realm nonce r client
   from_verdict nonce =
-      accepted_from_verdict realm.users realm.feature nonce (Some realm.offered)
-      r client
+      offering_from_verdict realm.users realm.feature nonce realm.offered r client
 
   to_verdict : (nonce : List ℕ) → IsAcceptedBy realm nonce r client
       → verdict_under realm nonce r ≡ Ok client
   to_verdict nonce =
-      verdict_from_accepted realm.users realm.feature nonce (Some realm.offered)
-      r client
+      verdict_from_offering realm.users realm.feature nonce realm.offered r client
 
   -- who is accepted under one nonce has a stale nonce under another
   to_stale : (secret other : List ℕ) (e f : ℕ)
@@ -65,8 +63,7 @@ module _ (s : Settings) (realm : Realm) (from : SocketAddr) (r : Reading)
   to_stale secret other e f one =
       let ours = nonce_in s secret from e in
       let now = nonce_in s other from f in
-      verdict_under_other realm.users realm.feature ours now
-      (Some realm.offered) r client one
+      offering_under_other realm.users realm.feature ours now realm.offered r client one
       ∙ ap (λ bits. cond (bytes_eq ours now) (Ok client)
       (Err (cond (bits_differ (security_bits now) bits) Unauthorized StaleNonce)))
       (bits_alike s secret other from from e f)

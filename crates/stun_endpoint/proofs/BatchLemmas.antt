@@ -9,7 +9,7 @@ use Rattle.std.specs.Prelude.{None, Option, Some, slice_get, slice_range}
 use Rattle.stun_endpoint.specs.Batches.{Datagram, FollowOneAnother, TakesRoom, outcome_at}
 use Rattle.stun_endpoint.specs.Batches.{and_found, outcomes_at, picked, received_all, received_one}
 use Rattle.stun_endpoint.specs.Buffered.{outcome_in}
-use Rattle.stun_endpoint.specs.Judged.{Realm}
+use Rattle.stun_judging.specs.Registered.{Registered}
 use Rattle.stun_endpoint.specs.Received.{Outcome}
 use Rattle.stun_endpoint.specs.Settings.{Settings}
 use Rattle.stun_endpoint.specs.declared.batch.ReceivedAt.{ReceivedAt}
@@ -76,33 +76,33 @@ taken_more : (datagrams : List Datagram) (i : ℕ) (d : Datagram) → i < length
 taken_more datagrams i d within is =
     (take_at_read datagrams i d within).1 ∙ ap (λ x. take i datagrams ++ x ∷ []) (sym is)
 
-pub batch_more : {A : Type 0} (s : Settings) (realm : Realm) (now : ℕ) (datagrams : List Datagram)
+pub batch_more : {A : Type 0} (s : Settings) (users : Option Registered) (now : ℕ) (datagrams : List Datagram)
     (i : ℕ) (d : Datagram) (answers new : List ℕ) (results more : List (ReceivedAt A))
     (one : ReceivedAt A) → i < length datagrams → d ≡ get_or datagrams i d
     → FollowOneAnother 0 results (length answers)
-    → outcomes_at answers results ≡ received_all s realm now (take i datagrams)
+    → outcomes_at answers results ≡ received_all s users now (take i datagrams)
     → new ≡ answers ++ slice_range new one.start one.end
-    → outcome_at new one ≡ received_one s realm now d → more ≡ results ++ one ∷ []
-    → outcomes_at new more ≡ received_all s realm now (take (i + 1) datagrams)
-batch_more s realm now datagrams i d answers new results more one within is follow so_far grown
+    → outcome_at new one ≡ received_one s users now d → more ≡ results ++ one ∷ []
+    → outcomes_at new more ≡ received_all s users now (take (i + 1) datagrams)
+batch_more s users now datagrams i d answers new results more one within is follow so_far grown
     received more_is =
     let part = slice_range new one.start one.end in
     let stay : outcomes_at new results ≡ outcomes_at answers results =
     ap (λ bytes. outcomes_at bytes results) grown ∙ outcomes_stay 0 results answers part follow in
     ap (outcomes_at new) more_is ∙ map-append (outcome_at new) results (one ∷ [])
     ∙ ap (λ x. x ++ outcome_at new one ∷ []) (stay ∙ so_far)
-    ∙ ap (λ x. received_all s realm now (take i datagrams) ++ x ∷ []) received
-    ∙ sym (map-append (received_one s realm now) (take i datagrams) (d ∷ []))
-    ∙ ap (received_all s realm now) (sym (taken_more datagrams i d within is))
+    ∙ ap (λ x. received_all s users now (take i datagrams) ++ x ∷ []) received
+    ∙ sym (map-append (received_one s users now) (take i datagrams) (d ∷ []))
+    ∙ ap (received_all s users now) (sym (taken_more datagrams i d within is))
 
 -- ---- what a batch comes to
 
-pub each_outcome : (s : Settings) (realm : Realm) (now : ℕ) (datagrams : List Datagram)
+pub each_outcome : (s : Settings) (users : Option Registered) (now : ℕ) (datagrams : List Datagram)
     (place : ℕ) (d : Datagram) → slice_get datagrams place ≡ Some d
-    → slice_get (received_all s realm now datagrams) place ≡ Some (received_one s realm now d)
-each_outcome s realm now datagrams place d at =
-    slice_get-map (received_one s realm now) datagrams place
-    ∙ ap (option_map (received_one s realm now)) at
+    → slice_get (received_all s users now datagrams) place ≡ Some (received_one s users now d)
+each_outcome s users now datagrams place d at =
+    slice_get-map (received_one s users now) datagrams place
+    ∙ ap (option_map (received_one s users now)) at
 
 and_found-map : {X Y : Type 0} (f : X → Y) (one : Option X) (later : List X)
     → map f (and_found one later) ≡ and_found (option_map f one) (map f later)

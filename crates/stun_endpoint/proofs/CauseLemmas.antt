@@ -11,12 +11,13 @@ use Rattle.std.specs.declared.result.Result.{Result}
 use Rattle.stun_base.specs.declared.keys.algorithm.IntegrityAlgorithm.{IntegrityAlgorithm}
 use Rattle.stun_judging.specs.declared.refusal.VerdictRefusal.{VerdictRefusal}
 use Rattle.stun_judging.specs.declared.refusal.VerdictRefusal.TheVariants as refused
-use Rattle.stun_judging.specs.Verdict.{or_before, ClientSeen, agreement, bits_differ, client_of}
-use Rattle.stun_judging.specs.Verdict.{nonce_refusal, their_nonce, verdict, verified_named}
+use Rattle.stun_judging.specs.Verdict.{or_before, ClientSeen, agreement_offering, bits_differ}
+use Rattle.stun_judging.specs.Verdict.{client_of, nonce_refusal, their_nonce, verified_named}
 use Rattle.stun_judging.specs.Nonces.{security_bits}
 use Rattle.stun_judging.specs.Reading.{Reading, is_complete, is_malformed}
-use Rattle.stun_judging.proofs.Accepting.{accepted_from_verdict, verdict_from_accepted}
-use Rattle.stun_judging.proofs.VerdictLemmas.{by_rows, verdict-rows}
+use Rattle.stun_judging.proofs.Accepting.{offering_from_verdict, offering_rows}
+use Rattle.stun_judging.proofs.Accepting.{verdict_from_offering}
+use Rattle.stun_judging.proofs.VerdictLemmas.{by_rows}
 use Rattle.stun_endpoint.specs.Causes.{credential_cause, has_other_bits, is_agreed, is_current}
 use Rattle.stun_endpoint.specs.Causes.{is_signed_by_user}
 use Rattle.stun_endpoint.specs.Judged.{IsAcceptedBy, IsAcceptedByPrevious, IsAcceptedUnder}
@@ -199,7 +200,7 @@ module _ (s : Settings) (realm : Realm) (from : SocketAddr) (r : Reading) where
   nameless = is_none r.userhash && is_none r.username
 
   abbrev agreed : Option IntegrityAlgorithm
-  agreed = agreement r (their_nonce r) (Some realm.offered)
+  agreed = agreement_offering realm.offered r
 
   abbrev signer : Option IntegrityAlgorithm
   signer = verified_named realm.users realm.feature r agreed
@@ -210,7 +211,7 @@ module _ (s : Settings) (realm : Realm) (from : SocketAddr) (r : Reading) where
   rows : (ours : List ℕ) → verdict_under realm ours r
       ≡ by_rows unsigned lacks nameless (is_none agreed) (not (bytes_eq (their_nonce r) ours))
       (is_none signer) (nonce_refusal ours (their_nonce r)) meant
-  rows ours = verdict-rows realm.users realm.feature ours (Some realm.offered) r
+  rows ours = offering_rows realm.users realm.feature ours realm.offered r
 
   complete : is_complete r ≡ (not lacks && not nameless)
   complete = complete_rows r.realm r.nonce r.userhash r.username
@@ -247,8 +248,7 @@ module _ (s : Settings) (realm : Realm) (from : SocketAddr) (r : Reading) where
       rows_fail unsigned lacks nameless (is_none agreed) (not (bytes_eq (their_nonce r) nonce))
       (is_none signer) (nonce_refusal nonce (their_nonce r)) meant client
       (sym (rows nonce)
-      ∙ verdict_from_accepted realm.users realm.feature nonce (Some realm.offered) r client
-      accepted) in
+      ∙ verdict_from_offering realm.users realm.feature nonce realm.offered r client accepted) in
       let q = is_current s from now r in
       let x = has_other_bits (current_nonce s from now) r in
       let other = has_one_of r (accepted_nonces s from e) in
@@ -284,7 +284,7 @@ module _ (s : Settings) (realm : Realm) (from : SocketAddr) (r : Reading) where
     accepted_by : (nonce : List ℕ) → bytes_eq (their_nonce r) nonce ≡ true
         → IsAcceptedBy realm nonce r meant
     accepted_by nonce q =
-        accepted_from_verdict realm.users realm.feature nonce (Some realm.offered) r meant
+        offering_from_verdict realm.users realm.feature nonce realm.offered r meant
         (rows nonce
         ∙ rows_hold unsigned lacks nameless (is_none agreed) (bytes_eq (their_nonce r) nonce)
         (is_none signer) (nonce_refusal nonce (their_nonce r)) meant a b c d q f)
@@ -315,10 +315,10 @@ module _ (s : Settings) (realm : Realm) (from : SocketAddr) (r : Reading) where
       let x = has_other_bits ours r in
       let one = has_one_of r (accepted_nonces s from e) in
       let empty = bytes_eq (their_nonce r) [] in
-      let d = is_none (agreement r (their_nonce r) (Some s.algorithms)) in
+      let d = is_none (agreement_offering s.algorithms r) in
       let f =
       is_none (verified_named (registered_of s) s.feature r
-      (agreement r (their_nonce r) (Some s.algorithms))) in
+      (agreement_offering s.algorithms r)) in
       let other = client_of (registered_of s) s.feature [] (Some s.algorithms) r in
       let row : Bool → Bool → Result ClientSeen VerdictRefusal = λ g h.
       by_rows unsigned lacks nameless g (not q) h (nonce_refusal ours (their_nonce r)) meant in
@@ -328,7 +328,7 @@ module _ (s : Settings) (realm : Realm) (from : SocketAddr) (r : Reading) where
       ∙ refused_under s.secret e why (refused_by_previous s.previous e why is) in
       let none : verdict_under_none s r
       ≡ by_rows unsigned lacks nameless d (not empty) f refused.StaleNonce other =
-      verdict-rows (registered_of s) s.feature [] (Some s.algorithms) r
+      offering_rows (registered_of s) s.feature [] s.algorithms r
       ∙ ap (λ n. by_rows unsigned lacks nameless d (not empty) f n other)
       (stale_for_all (their_nonce r)) in
       let malformed : is_malformed r

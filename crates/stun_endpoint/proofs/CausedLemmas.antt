@@ -16,14 +16,17 @@ use Rattle.stun_judging.specs.Reading.{Reading, reading_of, is_malformed}
 use Rattle.stun_judging.specs.declared.refusal.VerdictRefusal.{VerdictRefusal}
 use Rattle.stun_judging.specs.declared.refusal.VerdictRefusal.TheVariants as verdict
 use Rattle.stun_extra.specs.Unknown.{unknown_types}
-use Rattle.stun_endpoint.specs.Causes.{cause_by_class, cause_of, code_of_cause, credential_cause}
+use Rattle.stun_judging.specs.Registered.{Registered}
+use Rattle.stun_endpoint.specs.Causes.{cause_by_class, cause_for, cause_of, code_of_cause}
+use Rattle.stun_endpoint.specs.Causes.{credential_cause}
 use Rattle.stun_endpoint.specs.Causes.{or_unknown, refused_code}
-use Rattle.stun_endpoint.specs.Judged.{Realm, judged, key_of_client}
+use Rattle.stun_endpoint.specs.Judged.{Realm, has_other_realm, judged, key_of_client}
+use Rattle.stun_endpoint.specs.Judged.{realm_of_user}
 use Rattle.stun_endpoint.specs.Nonces.{current_nonce}
 use Rattle.stun_endpoint.specs.Received.{Answer, Outcome, answer_to_refused, by_class, by_verdict}
 use Rattle.stun_endpoint.specs.Received.{dropped, indicated, is_binding, is_empty}
 use Rattle.stun_endpoint.specs.Received.{or_handed, outcome_of_accepted, received_by}
-use Rattle.stun_endpoint.specs.Received.{responding_of, signature_for}
+use Rattle.stun_endpoint.specs.Received.{received_for, responding_of, signature_for}
 use Rattle.stun_endpoint.specs.Received.{unless_dropped}
 use Rattle.stun_endpoint.specs.Refusals.{code_of}
 use Rattle.stun_endpoint.specs.Responding.{binding_by, drop_reason, unknown_by}
@@ -148,3 +151,18 @@ module _ (s : Settings) (realm : Realm) (from : SocketAddr) (now : ℕ) (bytes :
       undropped_code (drop_reason s.requires_fingerprint bytes)
       (by_class s realm from now bytes (class_in bytes))
       (cause_by_class s realm from now bytes (class_in bytes)) (class_code (class_in bytes))
+
+-- so it is with the users whom a server is passed
+pub cause_for_code : (s : Settings) (users : Option Registered) (from : SocketAddr) (now : ℕ)
+    (bytes : List ℕ)
+    → option_map code_of_cause (cause_for s users from now bytes)
+    ≡ refused_code (received_for s users from now bytes)
+cause_for_code s users from now bytes = by (has_other_realm s users)
+  where
+    by : (b : Bool)
+        → option_map code_of_cause
+        (cond b None (cause_of s (realm_of_user s users) from now bytes))
+        ≡ refused_code (cond b (dropped drop.OtherRealm)
+        (received_by s (realm_of_user s users) from now bytes))
+    by true = refl
+    by false = cause_code s (realm_of_user s users) from now bytes

@@ -13,7 +13,7 @@ use Rattle.stun_judging.specs.Reading.{Reading}
 use Rattle.stun_judging.specs.declared.refusal.VerdictRefusal.{VerdictRefusal}
 use Rattle.stun_judging.specs.declared.refusal.VerdictRefusal.TheVariants.{Unauthorized, BadRequest}
 use Rattle.stun_judging.specs.declared.refusal.VerdictRefusal.TheVariants.{StaleNonce}
-use Rattle.stun_judging.proofs.Accepting.{accepted_from_verdict, verdict_from_accepted}
+use Rattle.stun_judging.proofs.Accepting.{offering_from_verdict, verdict_from_offering}
 use Rattle.stun_endpoint.specs.Judged.{IsAcceptedBy, Realm, judged_in, judged_under, or_previous}
 use Rattle.stun_endpoint.specs.Judged.{verdict_under}
 use Rattle.stun_endpoint.specs.Lookups.{accepted_nonces, has_one_of, nonces_of, previous_nonces}
@@ -221,7 +221,7 @@ module _ (s : Settings) (realm : Realm) (from : SocketAddr) (e : ℕ) (r : Readi
       let one = (accepted_has s realm from r client e is).1 in
       let nonce = nonce_in s one.0 from one.1 in
       ap (λ n. verdict_under realm n r) (has_it s realm from r client nonce one.2)
-      ∙ verdict_from_accepted realm.users realm.feature nonce (Some realm.offered) r client one.2
+      ∙ verdict_from_offering realm.users realm.feature nonce realm.offered r client one.2
 
   pub earlier_accepts : (n : List ℕ) (client : ClientSeen)
       → their_nonce_among r (earlier_nonces s from e) ≡ Some n
@@ -229,7 +229,7 @@ module _ (s : Settings) (realm : Realm) (from : SocketAddr) (e : ℕ) (r : Readi
   earlier_accepts n client has is =
       let parts = some_parts (has_one_of r (earlier_nonces s from e)) (their_nonce r) n has in
       under_accepted s realm from r client
-      (accepted_from_verdict realm.users realm.feature (their_nonce r) (Some realm.offered) r client
+      (offering_from_verdict realm.users realm.feature (their_nonce r) realm.offered r client
       (ap (λ k. verdict_under realm k r) parts.1 ∙ is)) e
       (ap (has_one_of r) (accepted_split s from e)
       ∙ or_right (bytes_eq (their_nonce r) (nonce_in s s.secret from e))

@@ -18,20 +18,21 @@ use Rattle.stun_judging.specs.Judged.{AcceptedSeen, client_judged}
 use Rattle.stun_judging.specs.Reading.{Reading, reading_of}
 use Rattle.stun_judging.specs.Registered.{Registered, RegisteredUser, UserSecret, name_cmp}
 use Rattle.stun_judging.specs.Registered.{user_named, user_with_hash}
-use Rattle.stun_judging.specs.Verdict.{ClientSeen, agreement, client_of, named_by, named_user}
-use Rattle.stun_judging.specs.Verdict.{nonce_refusal, their_nonce, verdict, verified_named}
+use Rattle.stun_judging.specs.Verdict.{ClientSeen, agreement_offering, client_of, named_by}
+use Rattle.stun_judging.specs.Verdict.{named_user, nonce_refusal, their_nonce, verdict_offering}
+use Rattle.stun_judging.specs.Verdict.{verified_named}
 use Rattle.stun_judging.specs.declared.refusal.VerdictRefusal.{VerdictRefusal}
-use Rattle.stun_judging.proofs.Accepting.{accepted_from_verdict}
-use Rattle.stun_judging.proofs.FoundLemmas.{found_judged, found_key_of_user, found_unproven}
+use Rattle.stun_judging.proofs.Accepting.{offering_from_verdict, offering_rows}
+use Rattle.stun_judging.proofs.FoundLemmas.{found_judged_offering, found_key_of_user}
+use Rattle.stun_judging.proofs.FoundLemmas.{found_unproven_offering}
 use Rattle.stun_judging.proofs.MeantUser.{has_hash, nobody, with_secret}
-use Rattle.stun_judging.proofs.VerdictLemmas.{verdict-rows}
 use Rattle.stun_endpoint.specs.Judged.{IsAcceptedBy, IsAcceptedByPrevious, IsAcceptedUnder, Realm}
 use Rattle.stun_endpoint.specs.Judged.{judged, judged_in, key_of_client}
 use Rattle.stun_endpoint.specs.Lookups.{accepted_nonces, has_one_of, nonces_of, previous_nonces}
 use Rattle.stun_endpoint.specs.Nonces.{epoch_of, nonce_in}
 use Rattle.stun_endpoint.specs.Received.{by_verdict, outcome_of_accepted, refused_with}
 use Rattle.stun_endpoint.specs.Settings.{Settings, registered_of}
-use Rattle.stun_endpoint.specs.code.Found.{IsAcceptedByKey, IsRefusedAsNobody}
+use Rattle.stun_endpoint.specs.code.Found.{IsAcceptedByKey, IsFoundKey, IsRefusedAsNobody}
 use Rattle.stun_endpoint.specs.code.Found.{realm_of_found, waiting_claim}
 use Rattle.stun_endpoint.specs.code.Judgements.{by_judgement}
 use Rattle.stun_endpoint.proofs.ReadyLemmas.{nobody_is_awaited}
@@ -54,7 +55,7 @@ pub found_accepted : (s : Settings) (user : RegisteredUser) (from : SocketAddr) 
     (bytes : List ℕ) (claim : ClaimSeen) (key : IntegrityAlgorithm × List ℕ)
     → waiting_claim s from e bytes ≡ Some claim
     → found_key (registered_of s) claim user ≡ Some key
-    → IsAcceptedByKey s user from e (reading_of bytes) claim.algorithm key.1
+    → IsAcceptedByKey s user from e (reading_of bytes) key.0 key.1
 found_accepted s user from e bytes claim key waits is =
     let r = reading_of bytes in
     let realm = realm_of_found s user in
@@ -63,12 +64,15 @@ found_accepted s user from e bytes claim key waits is =
     waits_with (has_one_of r (accepted_nonces s from e)) (claim_of s.algorithms s.feature bytes)
     claim waits in
     let theirs =
-    accepted_from_verdict realm.users realm.feature (their_nonce r) (Some realm.offered) r client
-    (found_judged (registered_of s) user s.feature bytes claim parts.1
+    offering_from_verdict realm.users realm.feature (their_nonce r) realm.offered r client
+    (found_judged_offering (registered_of s) user s.feature bytes claim parts.1
     ∙ ap (found_verdict claim user) is) in
+    let found = found_key_of_user (registered_of s) user claim key is in
     record {
-      judged = under_accepted s realm from r client theirs e parts.0;
-      has = (found_key_of_user (registered_of s) user claim key is).0;
+      judged = under_accepted s realm from r client theirs e parts.0
+          ∙ ap (λ (a : IntegrityAlgorithm). Ok (record { name = user.username; algorithm = a }))
+          (sym found.algorithm);
+      has = found.key;
     }
 
 -- ---- refusal
@@ -77,19 +81,19 @@ module _ (s : Settings) (r : Reading) (users : Registered) where
   -- where no digest verifies of the user who is named, each nonce gives the reason
   all_unproven : (nonces : List (List ℕ))
       → is_none (verified_named users s.feature r
-      (agreement r (their_nonce r) (Some s.algorithms))) ≡ true
+      (agreement_offering s.algorithms r)) ≡ true
       → AllRefused s r users nonces
   all_unproven [] h = tt
   all_unproven (nonce ∷ nonces) h =
       let a = is_none r.integrity in
       let b = is_none r.realm || is_none r.nonce in
       let c = is_none r.userhash && is_none r.username in
-      let d = is_none (agreement r (their_nonce r) (Some s.algorithms)) in
+      let d = is_none (agreement_offering s.algorithms r) in
       let e = not (bytes_eq (their_nonce r) nonce) in
       let f =
       is_none
-      (verified_named users s.feature r (agreement r (their_nonce r) (Some s.algorithms))) in (
-        verdict-rows users s.feature nonce (Some s.algorithms) r
+      (verified_named users s.feature r (agreement_offering s.algorithms r)) in (
+        offering_rows users s.feature nonce s.algorithms r
             ∙ refused_rows a b c d e f (nonce_refusal nonce (their_nonce r))
             (client_of users s.feature nonce (Some s.algorithms) r)
             (unproven a b c d e f h),
@@ -98,7 +102,7 @@ module _ (s : Settings) (r : Reading) (users : Registered) where
 
   unproven_is_refused : (from : SocketAddr) (e : ℕ)
       → is_none (verified_named users s.feature r
-      (agreement r (their_nonce r) (Some s.algorithms))) ≡ true
+      (agreement_offering s.algorithms r)) ≡ true
       → judged_in s (record { users = users; feature = s.feature; offered = s.algorithms }) from e r
       ≡ Err (refusal_under s r (nonce_in s s.secret from e))
   unproven_is_refused from e h =
@@ -145,7 +149,7 @@ found_refused s user from e bytes claim waits none =
     let parts =
     waits_with (has_one_of r (accepted_nonces s from e)) (claim_of s.algorithms s.feature bytes)
     claim waits in
-    let chosen = agreement r (their_nonce r) (Some s.algorithms) in
+    let chosen = agreement_offering s.algorithms r in
     let ours = nonce_in s s.secret from e in
     let nobody_there =
     none_verified (registered_of s) r (named_user (registered_of s) s.feature r) chosen
@@ -153,9 +157,20 @@ found_refused s user from e bytes claim waits none =
     record {
       why = refusal_under s r ours;
       judged = unproven_is_refused s r users from e
-          (found_unproven (registered_of s) user s.feature bytes claim parts.1 none);
+          (found_unproven_offering (registered_of s) user s.feature bytes claim parts.1 none);
       nobody = (all_unproven s r (registered_of s) (ours ∷ []) nobody_there).0;
     }
+
+-- the key that verifies decides, or that there is none
+pub found_either : (s : Settings) (user : RegisteredUser) (from : SocketAddr) (e : ℕ)
+    (bytes : List ℕ) (claim : ClaimSeen) (found : Option (IntegrityAlgorithm × List ℕ))
+    → waiting_claim s from e bytes ≡ Some claim
+    → found ≡ found_key (registered_of s) claim user
+    → IsFoundKey s user from e (reading_of bytes) found
+found_either s user from e bytes claim None waits is =
+    found_refused s user from e bytes claim waits (sym is)
+found_either s user from e bytes claim (Some key) waits is =
+    found_accepted s user from e bytes claim key waits (sym is)
 
 -- ---- what the request comes to
 
@@ -180,13 +195,13 @@ module _ (s : Settings) (user : RegisteredUser) (from : SocketAddr) (now : ℕ) 
         → IsRefusedAsNobody s user from (epoch_of s now) (reading_of bytes)
         → nonce ≡ nonce_in s s.secret from (epoch_of s now)
         → client_judged v
-        ≡ verdict (registered_of s) s.feature nonce (Some s.algorithms) (reading_of bytes)
+        ≡ verdict_offering (registered_of s) s.feature nonce s.algorithms (reading_of bytes)
         → by_judgement s nonce from bytes v
         ≡ by_verdict s (realm_of_found s user) from now bytes
         (judged s (realm_of_found s user) from now (reading_of bytes))
     refused_comes nonce v is made judges =
         by v (judges
-        ∙ ap (λ n. verdict (registered_of s) s.feature n (Some s.algorithms) (reading_of bytes)) made
+        ∙ ap (λ n. verdict_offering (registered_of s) s.feature n s.algorithms (reading_of bytes)) made
         ∙ is.nobody)
       where
         by : (v : Result AcceptedSeen VerdictRefusal) → client_judged v ≡ Err is.why

@@ -14,18 +14,19 @@ use Rattle.stun_base.specs.declared.wire.message_type.MessageClass.TheVariants.{
 use Rattle.stun_judging.specs.Named.{Named, named_in}
 use Rattle.stun_judging.specs.Reading.{Reading, reading_of, is_complete}
 use Rattle.stun_judging.specs.Registered.{Registered}
-use Rattle.stun_judging.specs.Verdict.{agreement, their_nonce}
-use Rattle.stun_endpoint.specs.Judged.{realm_of_user}
+use Rattle.stun_judging.specs.Verdict.{agreement_offering, their_nonce}
+use Rattle.stun_endpoint.specs.Judged.{has_other_realm, realm_of_user}
 use Rattle.stun_endpoint.specs.Lookups.{Identification, IsOneOf, LookupSeen, WaitsUnderItsNonce}
 use Rattle.stun_endpoint.specs.Lookups.{accepted_nonces, awaited, done, has_one_of, identified_as}
 use Rattle.stun_endpoint.specs.Lookups.{identified_by, is_ready, looked_up, waiting_by_class}
 use Rattle.stun_endpoint.specs.Lookups.{waits_for}
 use Rattle.stun_endpoint.specs.Nonces.{epoch_of}
 use Rattle.stun_endpoint.specs.Received.{Outcome, by_class, by_verdict, received_by}
-use Rattle.stun_endpoint.specs.Received.{unless_dropped}
+use Rattle.stun_endpoint.specs.Received.{received_for, unless_dropped}
 use Rattle.stun_endpoint.specs.Responding.{drop_reason}
 use Rattle.stun_endpoint.specs.Settings.{Settings}
 use Rattle.stun_endpoint.specs.declared.received.DropReason.{DropReason}
+use Rattle.stun_endpoint.proofs.RealmLemmas.{received_of_own}
 use Rattle.stun_endpoint.proofs.UnnamedLemmas.{unnamed_is_refused}
 
 -- the look-up, or a value in its place
@@ -73,11 +74,11 @@ module _ (s : Settings) (from : SocketAddr) (now : ℕ) (bytes : List ℕ) where
   done_if_none (Some user) outcome h = cc
 
   pub done_for_all : (outcome : Outcome) → identified_by s from now bytes ≡ done outcome
-      → (user : Option Registered)
-      → received_by s (realm_of_user s user) from now bytes ≡ outcome
-  done_for_all outcome h user =
+      → (user : Option Registered) → has_other_realm s user ≡ false
+      → received_for s user from now bytes ≡ outcome
+  done_for_all outcome h user own =
       let none = done_if_none (awaited s from now bytes) outcome h in
-      same_for_all user None none.0 ∙ none.1
+      received_of_own s user from now bytes own ∙ same_for_all user None none.0 ∙ none.1
 
   -- ---- what waits
 
@@ -140,7 +141,7 @@ module _ (s : Settings) (from : SocketAddr) (now : ℕ) (bytes : List ℕ) where
       (named_in r.userhash r.username s.feature) user h in
       let ready =
       first_two (is_some r.integrity) (is_complete r)
-      (is_some (agreement r (their_nonce r) (Some s.algorithms))) parts.0 in
+      (is_some (agreement_offering s.algorithms r)) parts.0 in
       let whole =
       first_two (is_some r.realm) (is_some r.nonce)
       (is_some r.userhash || is_some r.username) ready.1 in

@@ -7,7 +7,7 @@ use Rattle.stun_base.specs.MessageType.{class_in}
 use Rattle.stun_base.specs.declared.wire.message_type.MessageClass.TheVariants.{Request}
 use Rattle.stun_judging.specs.Judged.{AcceptedSeen, HasVerifyingKey, client_judged}
 use Rattle.stun_judging.specs.Reading.{reading_of}
-use Rattle.stun_judging.specs.Verdict.{verdict}
+use Rattle.stun_judging.specs.Verdict.{verdict_offering}
 use Rattle.stun_judging.specs.declared.refusal.VerdictRefusal.{VerdictRefusal}
 use Rattle.stun_endpoint.specs.Judged.{Realm, judged, key_of_client, realm_of_user}
 use Rattle.stun_endpoint.specs.Lookups.{waits_for}
@@ -71,13 +71,13 @@ pub unnamed_done : (s : Settings) (from : SocketAddr) (now : ℕ) (bytes nonce :
     → waits_for s from (epoch_of s now) (reading_of bytes) ≡ None
     → nonce ≡ nonce_in s s.secret from (epoch_of s now)
     → client_judged v
-    ≡ verdict (registered_of s) s.feature nonce (Some s.algorithms) (reading_of bytes)
+    ≡ verdict_offering (registered_of s) s.feature nonce s.algorithms (reading_of bytes)
     → by_judgement s nonce from bytes v ≡ received_by s (realm_of_user s None) from now bytes
 unnamed_done s from now bytes nonce v kept request none made is =
     let r = reading_of bytes in
     let ours = nonce_in s s.secret from (epoch_of s now) in
     let refused : client_judged v ≡ Err (refusal_under s r ours) =
-    is ∙ ap (λ n. verdict (registered_of s) s.feature n (Some s.algorithms) r) made
+    is ∙ ap (λ n. verdict_offering (registered_of s) s.feature n s.algorithms r) made
     ∙ unnamed_by_current s r (registered_of s) from (epoch_of s now) none in
     by v refused
     ∙ ap (λ n. refused_with s n from bytes (refusal_under s r ours)) made

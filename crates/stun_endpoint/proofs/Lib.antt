@@ -17,7 +17,9 @@ pub mod TheirNonceLemmas
 pub mod EarlierLemmas
 pub mod UnderstoodLemmas
 pub mod UnnamedLemmas
+pub mod OwnSettingsLemmas
 pub mod ReadyLemmas
+pub mod RealmLemmas
 pub mod FoundLemmas
 pub mod IdentifiedLemmas
 pub mod CauseLemmas

@@ -12,7 +12,7 @@ use Rattle.stun_judging.specs.declared.refusal.VerdictRefusal.TheVariants.{Stale
 use Rattle.stun_judging.specs.Found.{ClaimSeen, claim_by, claim_of}
 use Rattle.stun_judging.specs.Named.{Named, named_in}
 use Rattle.stun_judging.specs.Reading.{Reading, reading_of, is_complete}
-use Rattle.stun_judging.specs.Verdict.{agreement, nonce_refusal, their_nonce}
+use Rattle.stun_judging.specs.Verdict.{agreement_offering, nonce_refusal, their_nonce}
 use Rattle.stun_judging.proofs.FoundLemmas.{claim_message}
 use Rattle.stun_endpoint.specs.Lookups.{accepted_nonces, has_one_of, nonces_of}
 use Rattle.stun_endpoint.specs.Lookups.{previous_nonces, waits_for}
@@ -80,7 +80,7 @@ waiting_user : (s : Settings) (from : SocketAddr) (e : ℕ) (bytes : List ℕ)
 waiting_user s from e bytes =
     let r = reading_of bytes in
     by (has_one_of r (accepted_nonces s from e)) (is_some r.integrity) (is_complete r)
-    (agreement r (their_nonce r) (Some s.algorithms)) (named_in r.userhash r.username s.feature)
+    (agreement_offering s.algorithms r) (named_in r.userhash r.username s.feature)
   where
     by : (one signed complete : Bool) (chosen : Option IntegrityAlgorithm) (user : Option Named)
         → user_in (cond one (cond (signed && complete) (claim_by bytes chosen user) None) None)

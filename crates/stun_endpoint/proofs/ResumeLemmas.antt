@@ -1,11 +1,8 @@
 -- The user who is looked up is the one whom a table of all users finds, so both judge alike.
-use Rattle.std.proofs.Common.{◌≡◌, inl, inr, ℕ, zero, suc, List, [], Bool, true, false, refl}
+use Rattle.std.proofs.Common.{◌≡◌, inl, inr, ℕ, zero, suc, List, [], refl}
 use Rattle.std.proofs.Common.{Option, Some, None, sym, ◌∙◌, ap, Ok, Err}
 use Rattle.std.specs.Prelude.{cond, unwrap_or}
-use Rattle.std.specs.Cmp.{eq_by_cmp_equiv}
-use Rattle.std.specs.Cmp.Lexicographic.{nat_list_cmp_total}
-use Rattle.std.specs.FinMap as map
-use Rattle.std.specs.Option.{option_and_then, option_map}
+use Rattle.std.specs.Option.{option_and_then}
 use Rattle.std.specs.declared.net.socket_addr.SocketAddr.{SocketAddr}
 use Rattle.std.specs.declared.result.Result.{Result}
 use Rattle.stun_base.specs.MessageType.{class_in}
@@ -16,72 +13,49 @@ use Rattle.stun_base.specs.declared.wire.message_type.MessageClass.TheVariants.{
 use Rattle.stun_judging.specs.declared.algorithm_set.AlgorithmSet.{AlgorithmSet}
 use Rattle.stun_judging.specs.declared.feature.Feature.{Feature}
 use Rattle.stun_judging.specs.declared.refusal.VerdictRefusal.{VerdictRefusal}
-use Rattle.stun_judging.specs.Verdict.{or_before, ClientSeen, named_by, verdict}
-use Rattle.stun_judging.specs.Feature.{is_possible}
-use Rattle.stun_judging.specs.Named.{Named, by_hash, just, named_in, only_user, user_of}
-use Rattle.stun_judging.specs.Realm.{with_registered}
+use Rattle.stun_judging.specs.Verdict.{or_before, ClientSeen, verdict_offering}
+use Rattle.stun_judging.specs.Named.{Named, just, named_in, user_of}
 use Rattle.stun_judging.specs.Reading.{Reading, reading_of}
-use Rattle.stun_judging.specs.Registered.{Registered, RegisteredUser, UserSecret, key_at, key_of}
-use Rattle.stun_judging.specs.Registered.{name_cmp, user_with_hash}
+use Rattle.stun_judging.specs.Registered.{Registered, at_realm, key_at}
+use Rattle.stun_judging.proofs.TableUsers.{key_alone_at}
 use Rattle.stun_endpoint.specs.Judged.{IsAcceptedAt, IsAcceptedBy, IsAcceptedByPrevious}
-use Rattle.stun_endpoint.specs.Judged.{IsAcceptedUnder, Realm, judged, judged_under, key_of_client}
-use Rattle.stun_endpoint.specs.Judged.{or_previous, realm_of_table, realm_of_user, verdict_under}
-use Rattle.stun_endpoint.specs.Lookups.{LookupSeen, identified_by, looked_up, users_with}
+use Rattle.stun_endpoint.specs.Judged.{IsAcceptedUnder, Realm, has_other_realm, judged}
+use Rattle.stun_endpoint.specs.Judged.{judged_under, key_of_client, or_previous, realm_of_user}
+use Rattle.stun_endpoint.specs.Judged.{verdict_under}
+use Rattle.stun_endpoint.specs.Lookups.{LookupSeen, identified_by, looked_up}
 use Rattle.stun_endpoint.specs.Nonces.{epoch_of, nonce_in}
-use Rattle.stun_endpoint.specs.Realm.{table_of}
-use Rattle.stun_endpoint.specs.Received.{by_class, by_verdict, outcome_of_accepted}
-use Rattle.stun_endpoint.specs.Received.{received_by, unless_dropped}
+use Rattle.stun_endpoint.specs.Received.{Outcome, by_class, by_verdict, dropped}
+use Rattle.stun_endpoint.specs.Received.{outcome_of_accepted, received_by, received_for}
+use Rattle.stun_endpoint.specs.Received.{unless_dropped}
 use Rattle.stun_endpoint.specs.Responding.{drop_reason}
-use Rattle.stun_endpoint.specs.Settings.{Settings}
+use Rattle.stun_endpoint.specs.Settings.{Settings, registered_of}
+use Rattle.stun_endpoint.specs.declared.received.DropReason.TheVariants.{OtherRealm}
 use Rattle.stun_endpoint.proofs.AcceptedLemmas.{accepted_at}
 use Rattle.stun_endpoint.proofs.IdentifiedLemmas.{waits_under}
 
 -- the law of the crate below, which is that of whom a message names
 abbrev IsEnough : Type 0
-IsEnough = (users : Registered) (feature : Feature) (nonce : List ℕ) (offered : Option AlgorithmSet)
-    (r : Reading)
-    → verdict (just users (option_and_then (user_of users)
-    (named_in r.userhash r.username feature))) feature nonce offered r
-    ≡ verdict users feature nonce offered r
+IsEnough = (realm users : Registered) (feature : Feature) (nonce : List ℕ)
+    (supported : AlgorithmSet) (r : Reading)
+    → verdict_offering (at_realm realm (just users (option_and_then (user_of users)
+    (named_in r.userhash r.username feature)))) feature nonce supported r
+    ≡ verdict_offering (at_realm realm users) feature nonce supported r
 
--- whom a message names, in one step or in two
-named_is : (hash username : Option (List ℕ)) (users : Registered) (feature : Feature)
-    → option_and_then (user_of users) (named_in hash username feature)
-    ≡ named_by hash username users feature
-named_is (Some hash) username users feature = by_possible (is_possible feature)
-  where
-    by_possible : (b : Bool) → option_and_then (user_of users) (cond b (Some (by_hash hash)) None)
-        ≡ cond b (user_with_hash users hash) None
-    by_possible true = refl
-    by_possible false = refl
-named_is None None users feature = refl
-named_is None (Some name) users feature = refl
-
--- the only user is found by name
-only_is : (name : List ℕ) (secret : UserSecret)
-    → map.get (only_user (Some (record { username = name; secret = secret }))) name ≡ Some secret
-only_is name secret =
-    map.get-insert nat_list_cmp_total map.empty name secret name
-    ∙ ap (λ b. cond b (Some secret) (map.get (map.empty {R = name_cmp}) name))
-    ((eq_by_cmp_equiv nat_list_cmp_total).refl name)
-
-module _ (s : Settings) (secrets : map.FinMap name_cmp UserSecret) (named : Named)
+module _ (s : Settings) (all : Registered) (named : Named)
     (from : SocketAddr) (now : ℕ) (r : Reading) (enough : IsEnough)
     (names : named_in r.userhash r.username s.feature ≡ Some named) where
-  abbrev all : Registered
-  all = users_with s secrets
-
   abbrev many : Realm
-  many = realm_of_table (with_registered (table_of s) all)
+  many = realm_of_user s (Some all)
 
   abbrev one : Realm
   one = realm_of_user s (Some (just all (user_of all named)))
 
   same : (nonce : List ℕ) → verdict_under one nonce r ≡ verdict_under many nonce r
   same nonce =
-      ap (λ (o : Option Named). verdict (just all (option_and_then (user_of all) o)) s.feature nonce
-      (Some s.algorithms) r) (sym names)
-      ∙ enough all s.feature nonce (Some s.algorithms) r
+      ap (λ (o : Option Named). verdict_offering
+      (at_realm (registered_of s) (just all (option_and_then (user_of all) o))) s.feature nonce
+      s.algorithms r) (sym names)
+      ∙ enough (registered_of s) all s.feature nonce s.algorithms r
 
   same_under : (secret : List ℕ) (e : ℕ)
       → judged_under s one secret from e r ≡ judged_under s many secret from e r
@@ -99,22 +73,16 @@ module _ (s : Settings) (secrets : map.FinMap name_cmp UserSecret) (named : Name
   abbrev HasSameKey : ClientSeen → Type 0
   HasSameKey client = key_of_client one client ≡ key_of_client many client
 
-  abbrev with_secret : ClientSeen → Option UserSecret → List ℕ
-  with_secret client o =
-      unwrap_or (option_and_then (λ (user : RegisteredUser). key_of all user client.algorithm)
-      (option_map (λ secret. record { username = client.name; secret = secret }) o)) []
-
   of_one : (nonce : List ℕ) (client : ClientSeen) → IsAcceptedBy many nonce r client
       → HasSameKey client
   of_one nonce client a =
-      let found : user_of all named
-      ≡ Some (record { username = client.name; secret = a.secret }) =
-      ap (λ (o : Option Named). option_and_then (user_of all) o) (sym names)
-      ∙ named_is r.userhash r.username all s.feature ∙ a.named in
-      ap (λ (u : Option RegisteredUser).
-      unwrap_or (key_at (just all u) client.name client.algorithm) []) found
-      ∙ ap (with_secret client) (only_is client.name a.secret)
-      ∙ sym (ap (with_secret client) a.present)
+      ap (λ (o : Option Named).
+      unwrap_or (key_at
+      (at_realm (registered_of s) (just all (option_and_then (user_of all) o))) client.name
+      client.algorithm) []) (sym names)
+      ∙ ap (λ o. unwrap_or o [])
+      (key_alone_at (registered_of s) all s.feature r client.name a.accepted.secret
+      client.algorithm a.accepted.named a.accepted.present)
 
   of_under : (client : ClientSeen) (secret : List ℕ) (e : ℕ)
       → IsAcceptedUnder s many secret from e r client → HasSameKey client
@@ -146,33 +114,31 @@ module _ (s : Settings) (secrets : map.FinMap name_cmp UserSecret) (named : Name
       ap (by_verdict s one from now bytes) (same_in s.previous (epoch_of s now))
       ∙ by_case bytes (judged s many from now r) refl
 
-module _ (enough : IsEnough) (s : Settings) (secrets : map.FinMap name_cmp UserSecret) where
+module _ (enough : IsEnough) (s : Settings) (all : Registered) where
   same_class : (from : SocketAddr) (now : ℕ) (bytes : List ℕ) (named : Named)
       → named_in (reading_of bytes).userhash (reading_of bytes).username s.feature ≡ Some named
       → (class : MessageClass)
-      → let all = users_with s secrets in
-      by_class s (realm_of_user s (Some (just all (user_of all named)))) from now bytes class
-      ≡ by_class s (realm_of_table (with_registered (table_of s) all)) from now bytes class
+      → by_class s (realm_of_user s (Some (just all (user_of all named)))) from now bytes class
+      ≡ by_class s (realm_of_user s (Some all)) from now bytes class
   same_class from now bytes named names Request =
-      same_verdict s secrets named from now (reading_of bytes) enough names bytes
+      same_verdict s all named from now (reading_of bytes) enough names bytes
   same_class from now bytes named names Indication = refl
   same_class from now bytes named names Success = refl
   same_class from now bytes named names Error = refl
 
   pub resumed_is_received : (from : SocketAddr) (now : ℕ) (bytes : List ℕ) (lookup : LookupSeen)
       → identified_by s from now bytes ≡ looked_up lookup
-      → let all = users_with s secrets in
-      received_by s (realm_of_user s (Some (just all (user_of all lookup.user)))) lookup.from
-      lookup.arrived lookup.message
-      ≡ received_by s (realm_of_table (with_registered (table_of s) all)) from now bytes
+      → received_for s (Some (just all (user_of all lookup.user))) lookup.from lookup.arrived
+      lookup.message
+      ≡ received_for s (Some all) from now bytes
   resumed_is_received from now bytes lookup h =
       let w = waits_under s from now bytes lookup h in
-      let all = users_with s secrets in
       let one = realm_of_user s (Some (just all (user_of all lookup.user))) in
       let names : named_in (reading_of bytes).userhash (reading_of bytes).username s.feature
       ≡ Some lookup.user =
       ap (λ b. named_in (reading_of b).userhash (reading_of b).username s.feature) (sym w.0)
       ∙ w.3.user in
-      (λ i. received_by s one (w.1 i) (w.2 i) (w.0 i))
+      ap (cond {A = Outcome} (has_other_realm s (Some all)) (dropped OtherRealm))
+      ((λ i. received_by s one (w.1 i) (w.2 i) (w.0 i))
       ∙ ap (λ x. unless_dropped x (drop_reason s.requires_fingerprint bytes))
-      (same_class from now bytes lookup.user names (class_in bytes))
+      (same_class from now bytes lookup.user names (class_in bytes)))

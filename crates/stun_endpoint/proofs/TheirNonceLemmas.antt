@@ -42,7 +42,7 @@ module _ (s : Settings) (realm : Realm) (from : SocketAddr) (r : Reading) (clien
     -- ---- an accepted request has the nonce under which it is accepted
 
     pub has_it : (nonce : List ℕ) → IsAcceptedBy realm nonce r client → their_nonce r ≡ nonce
-    has_it nonce is = ap (λ o. unwrap_or o []) is.nonce
+    has_it nonce is = ap (λ o. unwrap_or o []) is.accepted.nonce
 
     is_it : (nonce : List ℕ) → IsAcceptedBy realm nonce r client
         → bytes_eq (their_nonce r) nonce ≡ true

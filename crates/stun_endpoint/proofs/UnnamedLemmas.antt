@@ -11,14 +11,15 @@ use Rattle.stun_judging.specs.declared.feature.Feature.{Feature}
 use Rattle.stun_judging.specs.declared.refusal.VerdictRefusal.{VerdictRefusal}
 use Rattle.stun_judging.specs.declared.refusal.VerdictRefusal.TheVariants.{Unauthorized, BadRequest}
 use Rattle.stun_judging.specs.declared.refusal.VerdictRefusal.TheVariants.{StaleNonce}
-use Rattle.stun_judging.specs.Verdict.{or_before, ClientSeen, agreement, client_of, named_by}
-use Rattle.stun_judging.specs.Verdict.{named_user, nonce_refusal, their_nonce, verdict}
-use Rattle.stun_judging.specs.Verdict.{verified_for, verified_named}
+use Rattle.stun_judging.specs.Verdict.{or_before, ClientSeen, agreement_offering, client_of}
+use Rattle.stun_judging.specs.Verdict.{named_by, named_user, nonce_refusal, their_nonce}
+use Rattle.stun_judging.specs.Verdict.{verdict_offering, verified_for, verified_named}
 use Rattle.stun_judging.specs.Feature.{is_possible}
 use Rattle.stun_judging.specs.Named.{named_in, by_hash}
 use Rattle.stun_judging.specs.Reading.{Reading}
 use Rattle.stun_judging.specs.Registered.{Registered, RegisteredUser, user_with_hash}
-use Rattle.stun_judging.proofs.VerdictLemmas.{by_rows, verdict-rows}
+use Rattle.stun_judging.proofs.Accepting.{offering_rows}
+use Rattle.stun_judging.proofs.VerdictLemmas.{by_rows}
 use Rattle.stun_endpoint.specs.Judged.{judged_in, judged_under, or_previous}
 use Rattle.stun_endpoint.specs.Lookups.{accepted_nonces, has_one_of, is_ready, nonces_of}
 use Rattle.stun_endpoint.specs.Lookups.{previous_nonces, waits_for}
@@ -33,7 +34,7 @@ refusal_under s r nonce =
     cond (is_none r.integrity) Unauthorized
     (cond (is_none r.realm || is_none r.nonce) BadRequest
     (cond (is_none r.userhash && is_none r.username) BadRequest
-    (cond (is_none (agreement r (their_nonce r) (Some s.algorithms))) BadRequest
+    (cond (is_none (agreement_offering s.algorithms r)) BadRequest
     (cond (not (bytes_eq (their_nonce r) nonce)) (nonce_refusal nonce (their_nonce r))
     Unauthorized))))
 
@@ -138,42 +139,42 @@ module _ (s : Settings) (r : Reading) (users : Registered) where
   pub refused_alike : (nonce : List ℕ)
       → ((is_ready s r && bytes_eq (their_nonce r) nonce) ≡ false)
       ⊎ (named_in r.userhash r.username s.feature ≡ None)
-      → verdict users s.feature nonce (Some s.algorithms) r ≡ Err (refusal_under s r nonce)
+      → verdict_offering users s.feature nonce s.algorithms r ≡ Err (refusal_under s r nonce)
   refused_alike nonce (inl h) =
       let a = is_none r.integrity in
       let b = is_none r.realm || is_none r.nonce in
       let c = is_none r.userhash && is_none r.username in
-      let d = is_none (agreement r (their_nonce r) (Some s.algorithms)) in
+      let d = is_none (agreement_offering s.algorithms r) in
       let f =
       is_none
-      (verified_named users s.feature r (agreement r (their_nonce r) (Some s.algorithms))) in
-      verdict-rows users s.feature nonce (Some s.algorithms) r
+      (verified_named users s.feature r (agreement_offering s.algorithms r)) in
+      offering_rows users s.feature nonce s.algorithms r
       ∙ refused_rows a b c d (not (bytes_eq (their_nonce r) nonce)) f
       (nonce_refusal nonce (their_nonce r))
       (client_of users s.feature nonce (Some s.algorithms) r)
       (other_nonce a b c d (bytes_eq (their_nonce r) nonce) f
       (ap (λ x. x && bytes_eq (their_nonce r) nonce)
       (sym (ready_rows r.integrity r.realm r.nonce r.userhash r.username
-      (agreement r (their_nonce r) (Some s.algorithms)))) ∙ h))
+      (agreement_offering s.algorithms r))) ∙ h))
   refused_alike nonce (inr h) =
       let a = is_none r.integrity in
       let b = is_none r.realm || is_none r.nonce in
       let c = is_none r.userhash && is_none r.username in
-      let d = is_none (agreement r (their_nonce r) (Some s.algorithms)) in
-      verdict-rows users s.feature nonce (Some s.algorithms) r
+      let d = is_none (agreement_offering s.algorithms r) in
+      offering_rows users s.feature nonce s.algorithms r
       ∙ refused_rows a b c d (not (bytes_eq (their_nonce r) nonce)) _
       (nonce_refusal nonce (their_nonce r))
       (client_of users s.feature nonce (Some s.algorithms) r)
       (unproven a b c d (not (bytes_eq (their_nonce r) nonce)) _
       (none_verified users r (named_user users s.feature r)
-      (agreement r (their_nonce r) (Some s.algorithms))
+      (agreement_offering s.algorithms r)
       (nobody_named users s.feature r.userhash r.username h)))
 
   -- the verdict under each of these nonces is the same for all users
   abbrev pub AllRefused : List (List ℕ) → Type 0
   AllRefused [] = Unit {0}
   AllRefused (nonce ∷ nonces) =
-      (verdict users s.feature nonce (Some s.algorithms) r ≡ Err (refusal_under s r nonce))
+      (verdict_offering users s.feature nonce s.algorithms r ≡ Err (refusal_under s r nonce))
       × AllRefused nonces
 
   all_refused : (nonces : List (List ℕ))
@@ -199,8 +200,8 @@ module _ (s : Settings) (r : Reading) (users : Registered) where
       ≡ Err (refusal_under s r (nonce_in s secret from e))
   under_refused secret from zero h = h.0
   under_refused secret from (suc e) h =
-      ap (λ v. or_before v (verdict users s.feature (nonce_in s secret from e)
-      (Some s.algorithms) r)) h.0
+      ap (λ v. or_before v (verdict_offering users s.feature (nonce_in s secret from e)
+      s.algorithms r)) h.0
       ∙ ap (or_before (Err (refusal_under s r (nonce_in s secret from (suc e))))) h.1.0
       ∙ refused_first (refusal_under s r (nonce_in s secret from (suc e)))
       (refusal_under s r (nonce_in s secret from e))
@@ -242,13 +243,13 @@ module _ (s : Settings) (r : Reading) (users : Registered) where
 
   first_refused : (secret : List ℕ) (from : SocketAddr) (e : ℕ)
       → AllRefused (nonces_of s secret from e)
-      → verdict users s.feature (nonce_in s secret from e) (Some s.algorithms) r
+      → verdict_offering users s.feature (nonce_in s secret from e) s.algorithms r
       ≡ Err (refusal_under s r (nonce_in s secret from e))
   first_refused secret from zero h = h.0
   first_refused secret from (suc e) h = h.0
 
   pub unnamed_by_current : (from : SocketAddr) (e : ℕ) → waits_for s from e r ≡ None
-      → verdict users s.feature (nonce_in s s.secret from e) (Some s.algorithms) r
+      → verdict_offering users s.feature (nonce_in s s.secret from e) s.algorithms r
       ≡ Err (refusal_under s r (nonce_in s s.secret from e))
   unnamed_by_current from e h =
       let both =

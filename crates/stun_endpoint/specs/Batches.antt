@@ -3,8 +3,8 @@ use Rattle.std.specs.Prelude.{◌≡◌, ◌≤◌, ℕ, List, [], ◌∷◌, le
 use Rattle.std.specs.Prelude.{Option, Some, None}
 use Rattle.std.specs.declared.net.socket_addr.SocketAddr.{SocketAddr}
 use Rattle.stun_endpoint.specs.Buffered.{outcome_in}
-use Rattle.stun_endpoint.specs.Judged.{Realm}
-use Rattle.stun_endpoint.specs.Received.{Outcome, received_by}
+use Rattle.stun_judging.specs.Registered.{Registered}
+use Rattle.stun_endpoint.specs.Received.{Outcome, received_for}
 use Rattle.stun_endpoint.specs.Settings.{Settings}
 use Rattle.stun_endpoint.specs.declared.batch.ReceivedAt.{ReceivedAt}
 use Rattle.stun_endpoint.specs.declared.buffered.ReceivedInto.{ReceivedInto}
@@ -16,12 +16,12 @@ pub record Datagram : Type 0 where
   pub from : SocketAddr
 
 -- the outcome of a datagram at a time
-abbrev pub received_one : Settings → Realm → ℕ → Datagram → Outcome
-received_one s realm now d = received_by s realm d.from now d.bytes
+abbrev pub received_one : Settings → Option Registered → ℕ → Datagram → Outcome
+received_one s users now d = received_for s users d.from now d.bytes
 
 -- the outcomes of the datagrams of a batch
-abbrev pub received_all : Settings → Realm → ℕ → List Datagram → List Outcome
-received_all s realm now datagrams = map (received_one s realm now) datagrams
+abbrev pub received_all : Settings → Option Registered → ℕ → List Datagram → List Outcome
+received_all s users now datagrams = map (received_one s users now) datagrams
 
 -- ---- results, whose responses are parts of one buffer
 

@@ -13,9 +13,10 @@ use Rattle.stun_base.specs.declared.wire.message_type.MessageClass.TheVariants.{
 use Rattle.stun_base.specs.declared.wire.message_type.MessageClass.TheVariants.{Success, Error}
 use Rattle.stun_judging.specs.Nonces.{security_bits}
 use Rattle.stun_judging.specs.Reading.{Reading, reading_of, is_complete}
-use Rattle.stun_judging.specs.Verdict.{agreement, bits_differ, their_nonce, verified_named}
+use Rattle.stun_judging.specs.Registered.{Registered}
+use Rattle.stun_judging.specs.Verdict.{agreement_offering, bits_differ, their_nonce, verified_named}
 use Rattle.stun_extra.specs.Unknown.{unknown_types}
-use Rattle.stun_endpoint.specs.Judged.{Realm}
+use Rattle.stun_endpoint.specs.Judged.{Realm, has_other_realm, realm_of_user}
 use Rattle.stun_endpoint.specs.Lookups.{accepted_nonces, has_one_of}
 use Rattle.stun_endpoint.specs.Nonces.{current_nonce, epoch_of}
 use Rattle.stun_endpoint.specs.Received.{Outcome, answered, dropped, indicated, requested, responded}
@@ -43,7 +44,7 @@ code_of_cause UnknownAttribute = 420
 
 -- whether PASSWORD-ALGORITHMS and PASSWORD-ALGORITHM agree with what was offered
 abbrev pub is_agreed : Realm → Reading → Bool
-is_agreed realm r = is_some (agreement r (their_nonce r) (Some realm.offered))
+is_agreed realm r = is_some (agreement_offering realm.offered r)
 
 -- whether both nonces have security bits, and the bits differ
 abbrev pub has_other_bits : List ℕ → Reading → Bool
@@ -53,7 +54,7 @@ has_other_bits ours r = bits_differ (security_bits ours) (security_bits (their_n
 abbrev pub is_signed_by_user : Realm → Reading → Bool
 is_signed_by_user realm r =
     is_some
-    (verified_named realm.users realm.feature r (agreement r (their_nonce r) (Some realm.offered)))
+    (verified_named realm.users realm.feature r (agreement_offering realm.offered r))
 
 -- whether the nonce is the current one
 abbrev pub is_current : Settings → SocketAddr → ℕ → Reading → Bool
@@ -102,6 +103,12 @@ abbrev pub cause_of : Settings → Realm → SocketAddr → ℕ → List ℕ →
 cause_of s realm from now bytes =
     if is_some (drop_reason s.requires_fingerprint bytes) then None
     else cause_by_class s realm from now bytes (class_in bytes)
+
+-- why a server refuses a datagram if it is passed a table of users, one user, or nobody. With users
+-- of another realm it refuses nothing, because it drops each datagram
+abbrev pub cause_for : Settings → Option Registered → SocketAddr → ℕ → List ℕ → Option Cause
+cause_for s users from now bytes =
+    if has_other_realm s users then None else cause_of s (realm_of_user s users) from now bytes
 
 -- ---- the response
 

@@ -1,44 +1,54 @@
 -- Which client is accepted: under the nonce of the epoch or, if the request's nonce is stale, under
 -- the nonce of the epoch before, or under a nonce of the previous secret (RFC 8489, section 9.2.4).
-use Rattle.std.specs.Prelude.{ℕ, zero, suc, List, [], Option, Some, None, ◌⊎◌, unwrap_or}
+use Rattle.std.specs.Prelude.{ℕ, zero, suc, List, [], Bool, false, not, Option, Some, None, ◌⊎◌}
+use Rattle.std.specs.Prelude.{unwrap_or}
+use Rattle.std.specs.Str.{bytes_eq}
 use Rattle.std.specs.declared.net.socket_addr.SocketAddr.{SocketAddr}
 use Rattle.std.specs.declared.result.Result.{Result}
 use Rattle.stun_judging.specs.declared.algorithm_set.AlgorithmSet.{AlgorithmSet}
 use Rattle.stun_judging.specs.declared.feature.Feature.{Feature}
 use Rattle.stun_judging.specs.declared.refusal.VerdictRefusal.{VerdictRefusal}
-use Rattle.stun_judging.specs.Verdict.{or_before, ClientSeen, IsAccepted, verdict}
+use Rattle.stun_judging.specs.Verdict.{or_before, ClientSeen, IsAcceptedOffering, verdict_offering}
 use Rattle.stun_judging.specs.Reading.{Reading}
-use Rattle.stun_judging.specs.Registered.{Registered, key_at}
+use Rattle.stun_judging.specs.Registered.{Registered, at_realm, key_at}
 use Rattle.stun_judging.specs.Realm.{RealmSeen}
 use Rattle.stun_endpoint.specs.Nonces.{epoch_of, nonce_in}
 use Rattle.stun_endpoint.specs.Settings.{Settings, registered_of}
 
--- the realm at which a request is judged: its users, whether they may be named by a hash, and the
--- algorithms that were offered
+-- what a request is judged by: the users, whether they may be named by a hash, and the algorithms
+-- that are supported and, if HMAC-SHA256 is among them, offered
 pub record Realm : Type 0 where
   pub users : Registered
   pub feature : Feature
   pub offered : AlgorithmSet
 
--- a table of users
-abbrev pub realm_of_table : RealmSeen → Realm
-realm_of_table table = record {
-  users = table.registered;
-  feature = table.feature;
-  offered = table.registered.algorithms;
-}
+-- the users whom a server is passed, at the realm of the server: the users of a table, one user, or
+-- nobody
+abbrev pub users_at : Settings → Option Registered → Registered
+users_at s None = registered_of s
+users_at s (Some users) = at_realm (registered_of s) users
 
--- one user at a server, or nobody
+-- what a server judges by if it is passed one user, a table, or nobody. All but the users is as the
+-- settings of the server say
 abbrev pub realm_of_user : Settings → Option Registered → Realm
-realm_of_user s user = record {
-  users = unwrap_or user (registered_of s);
+realm_of_user s users = record {
+  users = users_at s users;
   feature = s.feature;
   offered = s.algorithms;
 }
 
+-- what a server judges by if it is passed a table of users
+abbrev pub realm_of_table : Settings → RealmSeen → Realm
+realm_of_table s table = realm_of_user s (Some table.registered)
+
+-- whether a server is passed users of a realm with another name than its own
+abbrev pub has_other_realm : Settings → Option Registered → Bool
+has_other_realm s None = false
+has_other_realm s (Some users) = not (bytes_eq users.realm s.realm)
+
 -- the verdict under a nonce
 abbrev pub verdict_under : Realm → List ℕ → Reading → Result ClientSeen VerdictRefusal
-verdict_under realm nonce r = verdict realm.users realm.feature nonce (Some realm.offered) r
+verdict_under realm nonce r = verdict_offering realm.users realm.feature nonce realm.offered r
 
 -- the verdict by the nonces of one secret
 abbrev pub judged_under : Settings → Realm → List ℕ → SocketAddr → ℕ → Reading
@@ -76,7 +86,7 @@ key_of_client realm client = unwrap_or (key_at realm.users client.name client.al
 -- a client is accepted under a nonce
 abbrev pub IsAcceptedBy : Realm → List ℕ → Reading → ClientSeen → Type 0
 IsAcceptedBy realm nonce r client =
-    IsAccepted realm.users realm.feature nonce (Some realm.offered) r client
+    IsAcceptedOffering realm.users realm.feature nonce realm.offered r client
 
 -- a client is accepted under a nonce of a secret: that of an epoch, or of the epoch before
 abbrev pub IsAcceptedUnder : Settings → Realm → List ℕ → SocketAddr → ℕ → Reading → ClientSeen

@@ -10,6 +10,8 @@ pub mod Built
 pub mod Nonces
 -- which client is accepted: under the nonce of an epoch or of the epoch before (section 9.2.4)
 pub mod Judged
+-- what a server offers, and with which contents it accepts a request (section 9.2.4)
+pub mod Offers
 -- the responses, byte by byte
 pub mod Answers
 -- why a response cannot be ended

@@ -14,7 +14,7 @@ use Rattle.stun_base.specs.declared.wire.message_type.MessageClass.TheVariants.{
 use Rattle.stun_judging.specs.Named.{Named, named_in}
 use Rattle.stun_judging.specs.Reading.{Reading, reading_of, is_complete}
 use Rattle.stun_judging.specs.Registered.{Registered, UserSecret, name_cmp}
-use Rattle.stun_judging.specs.Verdict.{agreement, their_nonce}
+use Rattle.stun_judging.specs.Verdict.{agreement_offering, their_nonce}
 use Rattle.stun_endpoint.specs.Judged.{realm_of_user}
 use Rattle.stun_endpoint.specs.Nonces.{epoch_of, nonce_in}
 use Rattle.stun_endpoint.specs.Received.{Outcome, received_by}
@@ -50,7 +50,7 @@ has_one_of r (nonce ∷ nonces) = bytes_eq (their_nonce r) nonce || has_one_of r
 abbrev pub is_ready : Settings → Reading → Bool
 is_ready s r =
     is_some r.integrity && is_complete r
-    && is_some (agreement r (their_nonce r) (Some s.algorithms))
+    && is_some (agreement_offering s.algorithms r)
 
 -- the user whom a request waits for in an epoch, if it has a nonce that is accepted, and names a
 -- user

@@ -13,11 +13,12 @@ use Rattle.stun_base.specs.declared.wire.message_type.MessageClass.TheVariants.{
 use Rattle.stun_types.specs.Integrity.{deciding_algorithm}
 use Rattle.stun_judging.specs.Verdict.{told_refusal, ClientSeen}
 use Rattle.stun_judging.specs.Reading.{reading_of}
+use Rattle.stun_judging.specs.Registered.{Registered}
 use Rattle.stun_judging.specs.declared.refusal.VerdictRefusal.{VerdictRefusal}
 use Rattle.stun_judging.specs.declared.refusal.VerdictRefusal.TheVariants as verdict
 use Rattle.stun_extra.specs.Unknown.{unknown_types}
 use Rattle.stun_endpoint.specs.Answers.{Signature, challenge_page, with_end}
-use Rattle.stun_endpoint.specs.Judged.{Realm, judged, key_of_client}
+use Rattle.stun_endpoint.specs.Judged.{Realm, has_other_realm, judged, key_of_client, realm_of_user}
 use Rattle.stun_endpoint.specs.Nonces.{current_nonce}
 use Rattle.stun_endpoint.specs.Refusals.{code_of, phrase_of}
 use Rattle.stun_endpoint.specs.Responding.{OutcomeOf, Responding, drop_reason, ending_by, own_answer}
@@ -26,6 +27,7 @@ pub use Rattle.stun_endpoint.specs.Responding.{Answer, Reply, is_binding, is_emp
 pub use Rattle.stun_endpoint.specs.Responding.{answered, dropped, indicated, requested, responded}
 pub use Rattle.stun_endpoint.specs.Responding.{no_message, unless_dropped}
 use Rattle.stun_endpoint.specs.Settings.{Settings}
+use Rattle.stun_endpoint.specs.declared.received.DropReason.TheVariants.{OtherRealm}
 use Rattle.stun_endpoint.specs.declared.received.DropReason.TheVariants.{UnknownAttribute}
 use Rattle.stun_endpoint.specs.declared.received.Refusal.{Refusal}
 use Rattle.stun_endpoint.specs.declared.received.Refusal.TheVariants as refused
@@ -120,8 +122,16 @@ by_class s realm from now bytes Indication =
 by_class s realm from now bytes Success = responded bytes
 by_class s realm from now bytes Error = responded bytes
 
--- the outcome of a datagram
+-- the outcome of a datagram by what the server judges by
 abbrev pub received_by : Settings → Realm → SocketAddr → ℕ → List ℕ → Outcome
 received_by s realm from now bytes =
     unless_dropped (by_class s realm from now bytes (class_in bytes))
     (drop_reason s.requires_fingerprint bytes)
+
+-- the outcome of a datagram at a server that is passed a table of users, one user, or nobody. Users
+-- of another realm have keys for that realm, so the server drops each datagram that it is passed
+-- with them
+abbrev pub received_for : Settings → Option Registered → SocketAddr → ℕ → List ℕ → Outcome
+received_for s users from now bytes =
+    if has_other_realm s users then dropped OtherRealm
+    else received_by s (realm_of_user s users) from now bytes

@@ -1,7 +1,6 @@
 //! Laws about the definitions that the contracts of this crate cite. They do nothing when they run.
 //! An *epoch* is the time for which a server sends an address the same nonce.
-ghost use Rattle.std.specs.FinMap as fin;
-ghost use Rattle.std.specs.Prelude.{◌≡◌, ◌↔◌, ◌⊎◌, ◌≤◌, ◌+◌, ◌++◌, ℕ, Bool, List, None, Ok, Option};
+ghost use Rattle.std.specs.Prelude.{◌≡◌, ◌≢◌, ◌↔◌, ◌⊎◌, ◌≤◌, ◌+◌, ◌++◌, ℕ, Bool, List, None, Ok, Option};
 ghost use Rattle.std.specs.Prelude.{◌&&◌, IsUtf8, Some, false, length, map, slice_get, true};
 ghost use Rattle.std.specs.Option.{is_none, option_map};
 ghost use Rattle.std.specs.Str.{bytes_eq};
@@ -9,25 +8,25 @@ ghost use Rattle.std.specs.declared.net.socket_addr.SocketAddr.{SocketAddr};
 ghost use Rattle.stun_judging.specs.declared.refusal.VerdictRefusal.{VerdictRefusal};
 ghost use Rattle.stun_judging.specs.Reading.{Reading, reading_of, is_complete, is_malformed};
 ghost use Rattle.stun_judging.specs.Named.{just, user_of};
-ghost use Rattle.stun_judging.specs.Realm.{with_registered};
-ghost use Rattle.stun_judging.specs.Registered.{Registered, UserSecret, name_cmp};
+ghost use Rattle.stun_judging.specs.Registered.{Registered};
 ghost use Rattle.stun_judging.specs.Verdict.{ClientSeen, their_nonce};
 ghost use Rattle.stun_judging.specs.Nonces.{begins_with_cookie, letter, security_bits};
 ghost use Rattle.stun_endpoint.specs.Batches.{Datagram, picked, received_all};
-ghost use Rattle.stun_endpoint.specs.Causes.{cause_of, code_of_cause, credential_cause};
+ghost use Rattle.stun_endpoint.specs.Causes.{cause_for, code_of_cause, credential_cause};
 ghost use Rattle.stun_endpoint.specs.Causes.{has_other_bits, is_agreed, refused_code};
 ghost use Rattle.stun_endpoint.specs.Judged.{IsAcceptedAt, Realm, judged, key_of_client};
-ghost use Rattle.stun_endpoint.specs.Judged.{realm_of_table, realm_of_user};
+ghost use Rattle.stun_endpoint.specs.Judged.{has_other_realm};
 ghost use Rattle.stun_endpoint.specs.Lookups.{LookupSeen, WaitsUnderItsNonce, done};
-ghost use Rattle.stun_endpoint.specs.Lookups.{identified_by, looked_up, users_with};
+ghost use Rattle.stun_endpoint.specs.Lookups.{identified_by, looked_up};
 ghost use Rattle.stun_base.specs.MessageType.{class_in};
 ghost use Rattle.stun_base.specs.declared.wire.message_type.MessageClass.TheVariants as MessageClass;
 ghost use Rattle.stun_endpoint.specs.Nonces.{current_nonce, front_of, nonce_in};
 ghost use Rattle.stun_endpoint.specs.Nonces.{security_bytes};
-ghost use Rattle.stun_endpoint.specs.Realm.{table_of};
 ghost use Rattle.stun_endpoint.specs.Received.{AcceptedRequest, Answer as TheAnswer, Outcome};
 ghost use Rattle.stun_endpoint.specs.Received.{answered, dropped, indicated, outcome_of_accepted};
-ghost use Rattle.stun_endpoint.specs.Received.{received_by, refused_with, requested};
+ghost use Rattle.stun_endpoint.specs.Received.{received_by, received_for, refused_with};
+ghost use Rattle.stun_endpoint.specs.Received.{requested};
+ghost use Rattle.stun_endpoint.specs.Offers.{IsOffered};
 ghost use Rattle.stun_endpoint.specs.Open as openly;
 ghost use Rattle.stun_endpoint.specs.Open.{OpenRequest, received_openly};
 ghost use Rattle.stun_endpoint.specs.Responding.{Responding, drop_reason, is_binding, is_empty};
@@ -40,7 +39,7 @@ ghost use Rattle.stun_endpoint.specs.ShortTerm as short_term;
 ghost use Rattle.stun_endpoint.specs.ShortTerm.{IsSignedBy, Keys, SignedIndication, Signer};
 ghost use Rattle.stun_endpoint.specs.ShortTerm.{or_handed, received_signed, signature_of};
 ghost use Rattle.stun_endpoint.specs.ShortTerm.{signer_of};
-ghost use Rattle.stun_endpoint.specs.declared.received.DropReason.TheVariants.{NotSigned};
+ghost use Rattle.stun_endpoint.specs.declared.received.DropReason.TheVariants.{NotSigned, OtherRealm};
 ghost use Rattle.stun_endpoint.specs.declared.received.DropReason.TheVariants.{UnknownAttribute};
 ghost use Rattle.stun_endpoint.specs.declared.received.Refusal.{Refusal};
 ghost use Rattle.stun_endpoint.specs.declared.received.Refusal.TheVariants as refused;
@@ -125,6 +124,31 @@ pub fn outcomes_are_of_accepted_clients()
         ⊎ (bytes_eq (their_nonce (reading_of bytes)) (current_nonce s from now) ≡ true) }
 {}
 
+/// A server judges by its own settings, whatever the settings for which its users were made.
+///
+/// - `requests`: a request that is returned to the caller has only what the server's settings
+///   offer (`IsOffered`). The agreed algorithm is one that the server supports. A list of algorithms
+///   is the one that the server offers, and the choice is the agreed algorithm. A server that
+///   supports only HMAC-SHA1 offers no list, and accepts neither list nor choice. A hash of a name
+///   is accepted only if the server allows hashed names.
+/// - `answers`: the same holds for a request that the server answers with a success or a 420.
+/// - `other_realm`: with users of a realm with another name, the server drops every datagram, and
+///   names the reason. So it accepts nobody.
+pub fn servers_judge_by_their_own_settings()
+    ensures requests { (s : Settings) (users : Option Registered) (from : SocketAddr) (now : ℕ)
+        (bytes : List ℕ) (request : AcceptedRequest)
+        → received_for s users from now bytes ≡ requested request
+        → IsOffered s (reading_of bytes) request.client }
+    ensures answers { (s : Settings) (users : Option Registered) (from : SocketAddr) (now : ℕ)
+        (bytes : List ℕ) (answer : TheAnswer)
+        → received_for s users from now bytes ≡ answered answer
+        → (answer.refusal ≡ None) ⊎ (answer.refusal ≡ Some refused.UnknownAttribute)
+        → (client : ClientSeen) × IsOffered s (reading_of bytes) client }
+    ensures other_realm { (s : Settings) (users : Registered) (from : SocketAddr) (now : ℕ)
+        (bytes : List ℕ) → users.realm ≢ s.realm
+        → received_for s (Some users) from now bytes ≡ dropped OtherRealm }
+{}
+
 /// A datagram that is not dropped has a valid FINGERPRINT, or it has none and the server does not
 /// require one (RFC 8489, sections 7.3 and 14.7). A FINGERPRINT is invalid if its value is wrong or
 /// is not 4 bytes long, or if it is not the last attribute.
@@ -137,31 +161,29 @@ pub fn undropped_messages_are_whole()
 /// The cause of a refusal agrees with the outcome: there is a cause if and only if the outcome is a
 /// response that refuses the datagram, and the cause has the same code as the response.
 pub fn causes_have_their_codes()
-    ensures { (s : Settings) (realm : Realm) (from : SocketAddr) (now : ℕ) (bytes : List ℕ)
-        → option_map code_of_cause (cause_of s realm from now bytes)
-        ≡ refused_code (received_by s realm from now bytes) }
+    ensures { (s : Settings) (users : Option Registered) (from : SocketAddr) (now : ℕ)
+        (bytes : List ℕ) → option_map code_of_cause (cause_for s users from now bytes)
+        ≡ refused_code (received_for s users from now bytes) }
 {}
 
 /// If `identify` returns an outcome rather than a look-up, the outcome does not depend on the user:
-/// `receive` would return the same one with any user, or with none.
+/// `receive` would return the same one with any user of the server's realm, or with none.
 pub fn identify_needs_no_user()
     ensures { (s : Settings) (from : SocketAddr) (now : ℕ) (bytes : List ℕ) (outcome : Outcome)
         → identified_by s from now bytes ≡ done outcome → (user : Option Registered)
-        → received_by s (realm_of_user s user) from now bytes ≡ outcome }
+        → has_other_realm s user ≡ false → received_for s user from now bytes ≡ outcome }
 {}
 
 /// After a look-up, `resume` returns the outcome that `receive` returns for the request with a
 /// table of all users, at the time at which the request arrived. Premise: you pass to `resume` the
 /// user of this table whom the look-up names, by name or by hash, or no user if the table has no
-/// such user.
+/// such user. The table may be made for any settings.
 pub fn resume_is_receive_with_all_users()
-    ensures { (s : Settings) (secrets : fin.FinMap name_cmp UserSecret) (from : SocketAddr) (now : ℕ)
-        (bytes : List ℕ) (lookup : LookupSeen)
-        → identified_by s from now bytes ≡ looked_up lookup
-        → let all = users_with s secrets in
-        received_by s (realm_of_user s (Some (just all (user_of all lookup.user)))) lookup.from
-        lookup.arrived lookup.message
-        ≡ received_by s (realm_of_table (with_registered (table_of s) all)) from now bytes }
+    ensures { (s : Settings) (all : Registered) (from : SocketAddr) (now : ℕ) (bytes : List ℕ)
+        (lookup : LookupSeen) → identified_by s from now bytes ≡ looked_up lookup
+        → received_for s (Some (just all (user_of all lookup.user))) lookup.from lookup.arrived
+        lookup.message
+        ≡ received_for s (Some all) from now bytes }
 {
     stun_judging::laws::the_named_user_is_enough_to_judge();
 }
@@ -187,16 +209,19 @@ pub fn lookups_have_accepted_nonces()
 /// - `order`: if the datagrams arrive in another order, or if only some of them arrive, their
 ///   outcomes stay the same, because the server stores nothing about its clients.
 pub fn a_batch_is_its_single_calls()
-    ensures each { (s : Settings) (realm : Realm) (now : ℕ) (datagrams : List Datagram) (place : ℕ)
-        (d : Datagram) → slice_get datagrams place ≡ Some d
-        → slice_get (received_all s realm now datagrams) place
-        ≡ Some (received_by s realm d.from now d.bytes) }
-    ensures parts { (s : Settings) (realm : Realm) (now : ℕ) (first later : List Datagram)
-        → received_all s realm now (first ++ later)
-        ≡ received_all s realm now first ++ received_all s realm now later }
-    ensures order { (s : Settings) (realm : Realm) (now : ℕ) (datagrams : List Datagram)
-        (places : List ℕ) → received_all s realm now (picked places datagrams)
-        ≡ picked places (received_all s realm now datagrams) }
+    ensures each { (s : Settings) (users : Option Registered) (now : ℕ)
+        (datagrams : List Datagram) (place : ℕ) (d : Datagram)
+        → slice_get datagrams place ≡ Some d
+        → slice_get (received_all s users now datagrams) place
+        ≡ Some (received_for s users d.from now d.bytes) }
+    ensures parts { (s : Settings) (users : Option Registered) (now : ℕ)
+        (first later : List Datagram)
+        → received_all s users now (first ++ later)
+        ≡ received_all s users now first ++ received_all s users now later }
+    ensures order { (s : Settings) (users : Option Registered) (now : ℕ)
+        (datagrams : List Datagram) (places : List ℕ)
+        → received_all s users now (picked places datagrams)
+        ≡ picked places (received_all s users now datagrams) }
 {}
 
 /// A server with short-term credentials accepts a message as signed by a user if and only if

@@ -52,6 +52,10 @@ pub enum DropReason {
     /// The datagram is an indication with an attribute that the server must understand, but does
     /// not.
     UnknownAttribute,
+    /// The users that the call was passed are of a realm with another name than the server's. Their
+    /// keys depend on that name, so the server would refuse each of them. Whatever the datagram is,
+    /// the call drops it with this reason, so that you notice the mistake.
+    OtherRealm,
     /// The datagram is an indication that no user has signed, at a server with short-term
     /// credentials. A request with the same attributes would get this refusal.
     NotSigned(Refusal),

@@ -52,10 +52,10 @@ pub use settings::{
 /// threads share a server without a lock, and machines with the same settings can answer each
 /// other's clients.
 ///
-/// To change settings, build another server with the same secret. A table of users is made for a
-/// realm, algorithms and `user_hashes`, and a prepared user for a realm and algorithms. If one of
-/// these settings differs, also make a new table with `users` of the new server, and add or prepare
-/// the users again. No call detects a table or a user that was made for other settings.
+/// To change settings, build another server with the same secret. A table of users and a prepared
+/// user serve every server of their realm. Whatever the settings of the server that made them, each
+/// server accepts what its own settings offer. A server of another realm drops every datagram that
+/// it is passed with them, with `DropReason::OtherRealm`.
 ///
 /// If you remove HMAC-SHA256 from the algorithms, a client of this library that has succeeded with
 /// HMAC-SHA256 drops the new challenges, because they are weaker. Its next request times out, and
@@ -118,8 +118,8 @@ impl<A: Allocator> fmt::Debug for Server<A> {
 }
 
 impl<A: Memory> Server<A> {
-    /// Returns an empty table of users for this server's realm, algorithms and `user_hashes`. Use
-    /// it only with servers that have the same three settings. Fails if an allocation fails.
+    /// Returns an empty table of users for this server's realm. It serves every server of this
+    /// realm. Fails if an allocation fails.
     pub fn users(&self) -> Result<Users<A>, AllocError>
         ensures users { IfOk result (λ users. users ≡ table_of self.now) }
         ensures granted { A.grants → IsOk result }
@@ -131,8 +131,7 @@ impl<A: Memory> Server<A> {
     }
 
     /// Derives the keys of a user with a password, for `receive_for`. You may cache the result and
-    /// use it with every server that has the same realm and algorithms. Fails if an allocation
-    /// fails.
+    /// use it with every server of the same realm. Fails if an allocation fails.
     pub fn user(
         &self,
         credentials: LongTermCredentials<A>,
@@ -146,7 +145,7 @@ impl<A: Memory> Server<A> {
 
     /// Prepares a user with keys that are stored in place of a password, for `receive_for`. The
     /// keys must have been made for this server's realm. You may cache the result and use it with
-    /// every server that has the same realm and algorithms. Fails if an allocation fails.
+    /// every server of the same realm. Fails if an allocation fails.
     pub fn user_with_keys(
         &self,
         name: String<A>,

@@ -13,10 +13,10 @@ use stun_base::memory::Memory;
 use stun_judging::realm::Realm;
 use stun_judging::stored_keys::StoredKeys;
 
-/// The users of a realm, found by name and by hash. `Server::users` makes an empty table, for
-/// servers that have the same realm, algorithms and `user_hashes`. No call detects a table that was
-/// made for other settings. With such a table, a server may refuse users who have the right
-/// password, or accept a request whose list of algorithms is not the one that it offered.
+/// The users of a realm, found by name and by hash. `Server::users` makes an empty table, for every
+/// server of the same realm: a table has each user's keys for both algorithms, and each server
+/// judges by its own algorithms and `user_hashes`. A server of another realm drops every datagram
+/// that it is passed with the table, with `DropReason::OtherRealm`.
 ///
 /// The calls of a server that judge a request only read the table, so you can share it in an `Arc`.
 /// To change the users, replace the `Arc` by one with a new table.
@@ -55,8 +55,7 @@ impl<A: Allocator> fmt::Debug for Users<A> {
 }
 
 impl<A: Memory> Users<A> {
-    /// Adds a user with a password, and derives a key for each algorithm of the server. If the
-    /// table already has a user of that name, this password replaces the user's password or keys.
+    /// Adds a user with a password, and derives a key for each algorithm. If the table already has a user of that name, this password replaces the user's password or keys.
     ///
     /// Fails if an allocation fails. The table is then unchanged.
     pub fn add(&mut self, credentials: LongTermCredentials<A>) -> Result<(), AllocError>

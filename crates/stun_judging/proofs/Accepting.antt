@@ -2,7 +2,7 @@
 use Rattle.std.proofs.Common.{◌≡◌, ℕ, List, Option, Some, None, Bool}
 use Rattle.std.proofs.Common.{true, false, refl, sym, ◌∙◌, ap, Ok, Err}
 use Rattle.std.specs.Prelude.{cond, not, ◌||◌, ◌&&◌}
-use Rattle.std.specs.Option.{is_some, IsSome, option_and_then, option_map}
+use Rattle.std.specs.Option.{is_none, is_some, IsSome, option_and_then, option_map}
 use Rattle.std.specs.FinMap as fin
 use Rattle.std.specs.Str.{bytes_eq}
 use Rattle.std.specs.declared.result.Result.{Result}
@@ -17,10 +17,13 @@ use Rattle.stun_judging.specs.Judged.{AcceptedSeen, JudgesAccepted, client_judge
 use Rattle.stun_judging.specs.Reading.{Reading, verified_under, is_complete}
 use Rattle.stun_judging.specs.Registered.{Registered, RegisteredUser, UserSecret}
 use Rattle.stun_judging.specs.Registered.{key_at, key_from, key_if, key_of, user_named}
-use Rattle.stun_judging.specs.Verdict.{ClientSeen, IsAccepted, agreement, nonce_refusal, verdict}
+use Rattle.stun_judging.specs.Verdict.{ClientSeen, IsAccepted, IsAcceptedOffering, agreement}
+use Rattle.stun_judging.specs.Verdict.{agreement_offering, client_of, is_unoffered, nonce_refusal}
+use Rattle.stun_judging.specs.Verdict.{their_nonce, verdict, verdict_offering, verified_named}
 use Rattle.stun_judging.specs.code.Claims.{name_by, name_in}
 use Rattle.stun_judging.proofs.VerdictSteps.{by_attributes, by_choice, by_digest, by_name}
-use Rattle.stun_judging.proofs.VerdictLemmas.{by_steps-verdict, named_by-two_steps}
+use Rattle.stun_judging.proofs.VerdictLemmas.{by_rows, by_steps-verdict, named_by-two_steps}
+use Rattle.stun_judging.proofs.VerdictLemmas.{verdict-rows}
 
 -- ---- from the verdict
 
@@ -236,14 +239,103 @@ verdict_from_accepted users feature ours offered r client h =
     ∙ ap (λ b. cond b (Ok client) (Err (nonce_refusal ours ours)))
     ((bytes_eq-Decides ours ours).1 refl)
 
+-- ---- a server that offers what it supports
+
+behind_true : (a b : Bool) → a ≡ true → (a && b) ≡ false → b ≡ false
+behind_true true b there h = h
+behind_true false b there h = cc
+
+pub never_both : (a b : Bool) → b ≡ false → (a && b) ≡ false
+never_both true b h = h
+never_both false b h = refl
+
+-- a message whose algorithms were offered has the verdict of every server
+pub offering_as_all : (users : Registered) (feature : Feature) (ours : List ℕ)
+    (supported : AlgorithmSet) (r : Reading) → is_unoffered supported r ≡ false
+    → verdict_offering users feature ours supported r
+    ≡ verdict users feature ours (Some supported) r
+offering_as_all users feature ours supported r h =
+    ap (λ b. cond b (Err Refused.BadRequest) (verdict users feature ours (Some supported) r))
+    (never_both (is_some r.integrity) (is_unoffered supported r) h)
+
+-- the rows of the table, for a server that offers what it supports
+pub offering_rows : (users : Registered) (feature : Feature) (ours : List ℕ)
+    (supported : AlgorithmSet) (r : Reading)
+    → verdict_offering users feature ours supported r
+    ≡ by_rows (is_none r.integrity) (is_none r.realm || is_none r.nonce)
+    (is_none r.userhash && is_none r.username)
+    (is_none (agreement_offering supported r)) (not (bytes_eq (their_nonce r) ours))
+    (is_none (verified_named users feature r (agreement_offering supported r)))
+    (nonce_refusal ours (their_nonce r)) (client_of users feature ours (Some supported) r)
+offering_rows users feature ours supported r =
+    ap (λ v. cond (is_some r.integrity && is_unoffered supported r) (Err Refused.BadRequest) v)
+    (verdict-rows users feature ours (Some supported) r)
+    ∙ by (is_unoffered supported r) r.integrity (is_none r.realm || is_none r.nonce)
+    (is_none r.userhash && is_none r.username)
+  where
+    none_agreed : Option IntegrityAlgorithm
+    none_agreed = None
+
+    agreed : Option IntegrityAlgorithm
+    agreed = agreement r (their_nonce r) (Some supported)
+
+    by : (b : Bool) (i : Option (List ℕ → Option IntegrityAlgorithm)) (lacks nameless : Bool)
+        → cond (is_some i && b) (Err Refused.BadRequest)
+        (by_rows (is_none i) lacks nameless (is_none agreed) (not (bytes_eq (their_nonce r) ours))
+        (is_none (verified_named users feature r agreed)) (nonce_refusal ours (their_nonce r))
+        (client_of users feature ours (Some supported) r))
+        ≡ by_rows (is_none i) lacks nameless (is_none (cond b none_agreed agreed))
+        (not (bytes_eq (their_nonce r) ours))
+        (is_none (verified_named users feature r (cond b none_agreed agreed)))
+        (nonce_refusal ours (their_nonce r)) (client_of users feature ours (Some supported) r)
+    by false None lacks nameless = refl
+    by false (Some verify) lacks nameless = refl
+    by true None lacks nameless = refl
+    by true (Some verify) true nameless = refl
+    by true (Some verify) false true = refl
+    by true (Some verify) false false = refl
+
+pub offering_from_verdict : (users : Registered) (feature : Feature) (ours : List ℕ)
+    (supported : AlgorithmSet) (r : Reading) (client : ClientSeen)
+    → verdict_offering users feature ours supported r ≡ Ok client
+    → IsAcceptedOffering users feature ours supported r client
+offering_from_verdict users feature ours supported r client h =
+    let stood =
+    past (is_some r.integrity && is_unoffered supported r) _
+    (verdict users feature ours (Some supported) r) client h in
+    let one = accepted_from_verdict users feature ours (Some supported) r client stood.1 in
+    record {
+      offered = behind_true (is_some r.integrity) (is_unoffered supported r)
+          (protected r.integrity one.key one.digest) stood.0;
+      accepted = one;
+    }
+
+-- who is accepted under one nonce is accepted under another if that is the same, and refused by it
+pub offering_under_other : (users : Registered) (feature : Feature) (ours other : List ℕ)
+    (supported : AlgorithmSet) (r : Reading) (client : ClientSeen)
+    → IsAcceptedOffering users feature ours supported r client
+    → verdict_offering users feature other supported r
+    ≡ cond (bytes_eq ours other) (Ok client) (Err (nonce_refusal other ours))
+offering_under_other users feature ours other supported r client h =
+    offering_as_all users feature other supported r h.offered
+    ∙ verdict_under_other users feature ours other (Some supported) r client h.accepted
+
+pub verdict_from_offering : (users : Registered) (feature : Feature) (ours : List ℕ)
+    (supported : AlgorithmSet) (r : Reading) (client : ClientSeen)
+    → IsAcceptedOffering users feature ours supported r client
+    → verdict_offering users feature ours supported r ≡ Ok client
+verdict_from_offering users feature ours supported r client h =
+    offering_as_all users feature ours supported r h.offered
+    ∙ verdict_from_accepted users feature ours (Some supported) r client h.accepted
+
 -- ---- a verdict under a nonce that the caller gives
 
 -- a client is judged to be accepted if and only if the conjunction holds
 pub judged-accepted : (users : Registered) (feature : Feature) (ours : List ℕ)
-    (offered : AlgorithmSet) (r : Reading) (given : Result AcceptedSeen VerdictRefusal)
-    → client_judged given ≡ verdict users feature ours (Some offered) r
-    → JudgesAccepted users feature ours offered r given
-judged-accepted users feature ours offered r given same client = (
-  λ h. accepted_from_verdict users feature ours (Some offered) r client (sym same ∙ h),
-  λ one. same ∙ verdict_from_accepted users feature ours (Some offered) r client one,
+    (supported : AlgorithmSet) (r : Reading) (given : Result AcceptedSeen VerdictRefusal)
+    → client_judged given ≡ verdict_offering users feature ours supported r
+    → JudgesAccepted users feature ours supported r given
+judged-accepted users feature ours supported r given same client = (
+  λ h. offering_from_verdict users feature ours supported r client (sym same ∙ h),
+  λ one. same ∙ verdict_from_offering users feature ours supported r client one,
 )

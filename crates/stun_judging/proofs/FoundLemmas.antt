@@ -3,7 +3,8 @@
 use Rattle.std.proofs.Common.{◌≡◌, ℕ, List, [], map, Option, Some, None}
 use Rattle.std.proofs.Common.{Bool, true, false, true≢false, refl, sym, ◌∙◌, ap, Ok, Err}
 use Rattle.std.specs.Prelude.{◌≢◌, cond, not, ◌||◌, ◌&&◌}
-use Rattle.std.specs.Option.{is_none, is_some, option_and_then, option_map, option_map_or, unwrap_or}
+use Rattle.std.specs.Option.{IsSome, is_none, is_some, option_and_then, option_map}
+use Rattle.std.specs.Option.{option_map_or, unwrap_or}
 use Rattle.std.specs.Cmp.Lexicographic.{nat_list_cmp_total}
 use Rattle.std.specs.List.{find}
 use Rattle.std.specs.FinMap as fin
@@ -24,8 +25,10 @@ use Rattle.stun_judging.specs.Reading.{Reading, reading_of, verified_under, is_c
 use Rattle.stun_judging.specs.Registered.{Registered, RegisteredUser, UserSecret, key_at, key_of}
 use Rattle.stun_judging.specs.Registered.{name_cmp, user_named, user_with_hash}
 use Rattle.stun_judging.specs.Verdict.{ClientSeen}
-use Rattle.stun_judging.specs.Verdict.{agreement, client_of, named_by, named_user, nonce_refusal}
-use Rattle.stun_judging.specs.Verdict.{their_nonce, verdict, verified_for, verified_named}
+use Rattle.stun_judging.specs.Verdict.{agreement, agreement_offering, client_of, is_unoffered}
+use Rattle.stun_judging.specs.Verdict.{named_by, named_user, nonce_refusal, their_nonce}
+use Rattle.stun_judging.specs.Verdict.{verdict, verdict_offering, verified_for, verified_named}
+use Rattle.stun_judging.proofs.Accepting.{offering_as_all}
 use Rattle.stun_judging.proofs.MeantUser.{found, has_hash, one, with_secret}
 use Rattle.stun_judging.proofs.UserKeys.{other_name}
 use Rattle.stun_judging.proofs.VerdictLemmas.{by_rows, verdict-rows}
@@ -56,9 +59,21 @@ pub claim_message : (algorithms : AlgorithmSet) (feature : Feature) (bytes : Lis
     (claim : ClaimSeen) → claim_of algorithms feature bytes ≡ Some claim → claim.message ≡ bytes
 claim_message algorithms feature bytes claim h =
     let r = reading_of bytes in
-    (claims bytes (is_some r.integrity) (is_complete r)
-    (agreement r (their_nonce r) (Some algorithms)) (named_in r.userhash r.username feature) claim
-    h).whose
+    (claims bytes (is_some r.integrity) (is_complete r) (agreement_offering algorithms r)
+    (named_in r.userhash r.username feature) claim h).whose
+
+-- an algorithm that is agreed on was offered, if there was a list
+past_offer : (b : Bool) (o : Option IntegrityAlgorithm) (a : IntegrityAlgorithm)
+    → cond b None o ≡ Some a → (b ≡ false) × (o ≡ Some a)
+past_offer true o a h = cc
+past_offer false o a h = (refl, h)
+
+pub offering_agreed : (supported : AlgorithmSet) (r : Reading) (a : IntegrityAlgorithm)
+    → agreement_offering supported r ≡ Some a
+    → (is_unoffered supported r ≡ false)
+    × (agreement r (their_nonce r) (Some supported) ≡ Some a)
+offering_agreed supported r a h =
+    past_offer (is_unoffered supported r) (agreement r (their_nonce r) (Some supported)) a h
 
 -- the rows before the last hold of no such message
 past_rows : (i : Option (List ℕ → Option IntegrityAlgorithm)) (realm nonce hash name : Option (List ℕ))
@@ -92,8 +107,9 @@ claim_row users feature algorithms bytes claim h =
     let ours = their_nonce r in
     let chosen = agreement r ours (Some algorithms) in
     let k =
-    claims bytes (is_some r.integrity) (is_complete r) chosen
+    claims bytes (is_some r.integrity) (is_complete r) (agreement_offering algorithms r)
     (named_in r.userhash r.username feature) claim h in
+    let agreed = (offering_agreed algorithms r claim.algorithm k.agreed).1 in
     let client = client_of users feature ours (Some algorithms) r in
     let unproven = is_none (verified_named users feature r chosen) in
     verdict-rows users feature ours (Some algorithms) r
@@ -101,7 +117,7 @@ claim_row users feature algorithms bytes claim h =
     (is_none r.userhash && is_none r.username) (is_none chosen) (not q) unproven
     (nonce_refusal ours ours) client) ((bytes_eq-Decides ours ours).1 refl)
     ∙ past_rows r.integrity r.realm r.nonce r.userhash r.username chosen unproven
-    (nonce_refusal ours ours) client k.signed k.complete (ap is_some k.agreed)
+    (nonce_refusal ours ours) client k.signed k.complete (ap is_some agreed)
 
 -- ---- the user who is named
 
@@ -178,21 +194,22 @@ module _ (users : Registered) (user : RegisteredUser) where
     by_digest_of : (key : List ℕ) (o : Option IntegrityAlgorithm)
         → cond (is_none o) (Err Unauthorized)
         (Ok (record { name = user.username; algorithm = claim.algorithm }))
-        ≡ found_verdict claim user (option_map (λ by. (by, key)) o)
+        ≡ found_verdict claim user (option_map (λ by. (claim.algorithm, key)) o)
     by_digest_of key None = refl
     by_digest_of key (Some by) = refl
 
     by_key : (o : Option (List ℕ))
         → cond (is_none (option_and_then (verified_under (reading_of bytes)) o)) (Err Unauthorized)
         (Ok (record { name = user.username; algorithm = claim.algorithm }))
-        ≡ found_verdict claim user (verifying (reading_of bytes) o)
+        ≡ found_verdict claim user (verifying (reading_of bytes) claim.algorithm o)
     by_key None = refl
     by_key (Some key) = by_digest_of key (verified_under (reading_of bytes) key)
 
     by_name_of : (b : Bool)
         → last_row (cond b (Some user) None)
         ≡ found_verdict claim user
-        (cond b (verifying (reading_of bytes) (key_of users user claim.algorithm)) None)
+        (cond b
+        (verifying (reading_of bytes) claim.algorithm (key_of users user claim.algorithm)) None)
     by_name_of true = by_key (key_of users user claim.algorithm)
     by_name_of false = refl
 
@@ -205,22 +222,37 @@ module _ (users : Registered) (user : RegisteredUser) where
         let r = reading_of bytes in
         let ours = their_nonce r in
         let all = just users (Some user) in
-        let chosen = agreement r ours (Some users.algorithms) in
         let k =
-        claims bytes (is_some r.integrity) (is_complete r) chosen
+        claims bytes (is_some r.integrity) (is_complete r) (agreement_offering users.algorithms r)
         (named_in r.userhash r.username feature) claim h in
+        let agreed = (offering_agreed users.algorithms r claim.algorithm k.agreed).1 in
         claim_row all feature users.algorithms bytes claim h
         ∙ ap (λ (o : Option IntegrityAlgorithm).
         cond (is_none (verified_named all feature r o)) (Err Unauthorized)
         (Ok (record {
           name = option_map_or (λ (u : RegisteredUser). u.username) (named_user all feature r) [];
           algorithm = unwrap_or o Sha1;
-        }))) k.agreed
+        }))) agreed
         ∙ ap last_row (named_is feature r.userhash r.username claim.user k.named)
         ∙ by_name_of (is_claimed claim.user user.username users.realm)
         ∙ ap (λ m. found_verdict claim user
         (cond (is_claimed claim.user user.username users.realm)
-        (verifying (reading_of m) (key_of users user claim.algorithm)) None)) (sym k.whose)
+        (verifying (reading_of m) claim.algorithm (key_of users user claim.algorithm)) None))
+        (sym k.whose)
+
+    -- a server that offers what it supports judges it so too
+    pub found_judged_offering : claim_of users.algorithms feature bytes ≡ Some claim
+        → verdict_offering (just users (Some user)) feature (their_nonce (reading_of bytes))
+        users.algorithms (reading_of bytes)
+        ≡ found_verdict claim user (found_key users claim user)
+    found_judged_offering h =
+        let r = reading_of bytes in
+        let k =
+        claims bytes (is_some r.integrity) (is_complete r) (agreement_offering users.algorithms r)
+        (named_in r.userhash r.username feature) claim h in
+        offering_as_all (just users (Some user)) feature (their_nonce r) users.algorithms r
+        (offering_agreed users.algorithms r claim.algorithm k.agreed).0
+        ∙ found_judged h
 
     -- without a key no digest verifies of the user who is named
     pub found_unproven : claim_of users.algorithms feature bytes ≡ Some claim
@@ -249,44 +281,71 @@ module _ (users : Registered) (user : RegisteredUser) where
         by true e = refl
         by false e = cc
 
+    -- nor by the algorithm that a server agrees on
+    pub found_unproven_offering : claim_of users.algorithms feature bytes ≡ Some claim
+        → found_key users claim user ≡ None
+        → is_none (verified_named (just users (Some user)) feature (reading_of bytes)
+        (agreement_offering users.algorithms (reading_of bytes))) ≡ true
+    found_unproven_offering h none =
+        let r = reading_of bytes in
+        let k =
+        claims bytes (is_some r.integrity) (is_complete r) (agreement_offering users.algorithms r)
+        (named_in r.userhash r.username feature) claim h in
+        let agreed = (offering_agreed users.algorithms r claim.algorithm k.agreed).1 in
+        ap (λ o. is_none (verified_named (just users (Some user)) feature r o))
+        (k.agreed ∙ sym agreed)
+        ∙ found_unproven h none
+
   -- ---- the key
 
+  -- the key that was found is the user's for the agreed algorithm, and a digest verifies under it
+  pub record IsKeyFound (claim : ClaimSeen) (given : Option (List ℕ))
+      (found : IntegrityAlgorithm × List ℕ) : Type 0 where
+    pub algorithm : found.0 ≡ claim.algorithm
+    pub key : given ≡ Some found.1
+    pub verifies : IsSome (verified_under (reading_of claim.message) found.1)
+
   found_key_is : (claim : ClaimSeen) (key : IntegrityAlgorithm × List ℕ) (o : Option (List ℕ))
-      → verifying (reading_of claim.message) o ≡ Some key
-      → (o ≡ Some key.1) × (verified_under (reading_of claim.message) key.1 ≡ Some key.0)
+      → verifying (reading_of claim.message) claim.algorithm o ≡ Some key → IsKeyFound claim o key
   found_key_is claim key None h = cc
   found_key_is claim key (Some one) h =
       by (verified_under (reading_of claim.message) one) refl h
     where
       by : (o : Option IntegrityAlgorithm) → verified_under (reading_of claim.message) one ≡ o
-          → option_map (λ by. (by, one)) o ≡ Some key
-          → (Some one ≡ Some key.1)
-          × (verified_under (reading_of claim.message) key.1 ≡ Some key.0)
+          → option_map (λ by. (claim.algorithm, one)) o ≡ Some key
+          → IsKeyFound claim (Some one) key
       by None is e = cc
       by (Some a) is e =
           let same : one ≡ key.1 = cc in
-          let by_it : a ≡ key.0 = cc in
-          (ap Some same, sym (ap (verified_under (reading_of claim.message)) same) ∙ is ∙ ap Some by_it)
+          let agreed : key.0 ≡ claim.algorithm = cc in
+          record {
+            algorithm = agreed;
+            key = ap Some same;
+            verifies = ap is_some (sym (ap (verified_under (reading_of claim.message)) same) ∙ is);
+          }
 
   pub found_key_of_user : (claim : ClaimSeen) (key : IntegrityAlgorithm × List ℕ)
       → found_key users claim user ≡ Some key
-      → (key_at (just users (Some user)) user.username claim.algorithm ≡ Some key.1)
-      × (verified_under (reading_of claim.message) key.1 ≡ Some key.0)
+      → IsKeyFound claim (key_at (just users (Some user)) user.username key.0) key
   found_key_of_user claim key h = by (is_claimed claim.user user.username users.realm) h
     where
-      registered : key_at (just users (Some user)) user.username claim.algorithm
-          ≡ key_of users user claim.algorithm
-      registered =
+      registered : (a : IntegrityAlgorithm)
+          → key_at (just users (Some user)) user.username a ≡ key_of users user a
+      registered a =
           ap (λ o. option_and_then (λ (u : RegisteredUser).
-          key_of (just users (Some user)) u claim.algorithm) (with_secret user.username o))
+          key_of (just users (Some user)) u a) (with_secret user.username o))
           (found user.username user.secret)
 
       by : (b : Bool)
-          → cond b (verifying (reading_of claim.message) (key_of users user claim.algorithm)) None
-          ≡ Some key
-          → (key_at (just users (Some user)) user.username claim.algorithm ≡ Some key.1)
-          × (verified_under (reading_of claim.message) key.1 ≡ Some key.0)
+          → cond b
+          (verifying (reading_of claim.message) claim.algorithm (key_of users user claim.algorithm))
+          None ≡ Some key
+          → IsKeyFound claim (key_at (just users (Some user)) user.username key.0) key
       by false e = cc
       by true e =
           let k = found_key_is claim key (key_of users user claim.algorithm) e in
-          (registered ∙ k.0, k.1)
+          record {
+            algorithm = k.algorithm;
+            key = registered key.0 ∙ ap (key_of users user) k.algorithm ∙ k.key;
+            verifies = k.verifies;
+          }

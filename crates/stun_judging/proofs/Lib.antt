@@ -17,12 +17,12 @@ pub mod NonceLengths
 pub mod NonceTexts
 pub mod NoncesDiffer
 pub mod ReadingLemmas
-pub mod Rekeyed
 pub mod Renamed
 pub mod SignedBases
 pub mod SignedGrowth
 pub mod SignedReading
 pub mod SignedRoom
+pub mod TableUsers
 pub mod TailReading
 pub mod UserKeys
 pub mod UserMaps

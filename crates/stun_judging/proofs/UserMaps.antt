@@ -14,8 +14,12 @@ use Rattle.std.proofs.lemmas.Map.Lookups.{exact_bytes}
 use Rattle.std.proofs.lemmas.Map.Text.{btree_map_updates_text, is_eq-slice_cmp}
 use Rattle.std.proofs.lemmas.Slice.Eq.{bytes_eq-Decides}
 use Rattle.stun_base.specs.declared.keys.algorithm.IntegrityAlgorithm.{IntegrityAlgorithm}
+use Rattle.stun_base.specs.declared.keys.algorithm.IntegrityAlgorithm.TheVariants.{Sha1, Sha256}
 use Rattle.stun_judging.specs.declared.algorithm_set.AlgorithmSet.{AlgorithmSet}
-use Rattle.stun_judging.specs.Registered.{Registered, RegisteredUser, UserSecret, key_of, key_at}
+use Rattle.stun_judging.specs.declared.algorithm_set.AlgorithmSet.TheVariants.{Both}
+use Rattle.stun_judging.specs.Algorithms.{contains}
+use Rattle.stun_judging.specs.Registered.{Registered, RegisteredUser, UserSecret, key_at, key_if}
+use Rattle.stun_judging.specs.Registered.{key_of, user_named}
 use Rattle.stun_judging.specs.code.Users.{key_in, HasKeys, AllHaveKeys, secret_of, secrets_seen}
 use Rattle.stun_judging.specs.declared.registry.User.{User}
 use Rattle.stun_judging.proofs.Maps.{get-seen, seen_inserted, seen_removed}
@@ -48,37 +52,33 @@ secrets_seen-removed m n name updates =
     name (by_order m n name None updates)
 
 -- the same entries have the same keys, and no entries have none that is missing
-pub keys_where_same : {A : Type 0} (realm : List ℕ) (algorithms : AlgorithmSet)
-    (m : BTreeMap (String A) (User A)) (es : List (String A × User A)) → m.entries ≡ es
+pub keys_where_same : {A : Type 0} (realm : List ℕ) (m : BTreeMap (String A) (User A)) (es : List (String A × User A)) → m.entries ≡ es
     → ((name : List ℕ)
     → IfSome (lookup (is_at (λ k. slice_cmp nat_cmp name (string_bytes k))) es)
-    (HasKeys realm algorithms name)) → AllHaveKeys realm algorithms m
-keys_where_same {A = A} realm algorithms m es same all = λ name.
+    (HasKeys realm name)) → AllHaveKeys realm m
+keys_where_same {A = A} realm m es same all = λ name.
     subst (λ (es : List (String A × User A)).
     IfSome (lookup (is_at (λ k. slice_cmp nat_cmp name (string_bytes k))) es)
-    (HasKeys realm algorithms name)) (sym same) (all name)
+    (HasKeys realm name)) (sym same) (all name)
 
 -- each user still has keys after one was added, and after one was removed
-pub keys_after_add : {A : Type 0} (realm : List ℕ) (algorithms : AlgorithmSet)
-    (m n : BTreeMap (String A) (User A)) (name : List ℕ) (u : User A)
+pub keys_after_add : {A : Type 0} (realm : List ℕ) (m n : BTreeMap (String A) (User A)) (name : List ℕ) (u : User A)
     → UpdatesBy string_cmp (λ k. slice_cmp nat_cmp name (string_bytes k)) m n (Some u)
-    → HasKeys realm algorithms name u → AllHaveKeys realm algorithms m
-    → AllHaveKeys realm algorithms n
-keys_after_add realm algorithms m n name u updates has_keys all = λ q.
-    let P : Option (User _) → Type 0 = λ o. IfSome o (HasKeys realm algorithms q) in
+    → HasKeys realm name u → AllHaveKeys realm m → AllHaveKeys realm n
+keys_after_add realm m n name u updates has_keys all = λ q.
+    let P : Option (User _) → Type 0 = λ o. IfSome o (HasKeys realm q) in
     subst P (sym (btree_map_updates_text name m n (Some u) updates q))
     (elim (bytes_eq name q) as (λ b. bytes_eq name q ≡ b → P (cond b (Some u) (get_by_text m q))) [
       | true ↦ λ e.
-          subst (λ k. HasKeys realm algorithms k u) ((bytes_eq-Decides name q).0 e) has_keys
+          subst (λ k. HasKeys realm k u) ((bytes_eq-Decides name q).0 e) has_keys
       | false ↦ λ e. all q
     ] refl)
 
-pub keys_after_remove : {A : Type 0} (realm : List ℕ) (algorithms : AlgorithmSet)
-    (m n : BTreeMap (String A) (User A)) (name : List ℕ)
+pub keys_after_remove : {A : Type 0} (realm : List ℕ) (m n : BTreeMap (String A) (User A)) (name : List ℕ)
     → UpdatesBy string_cmp (λ k. slice_cmp nat_cmp name (string_bytes k)) m n None
-    → AllHaveKeys realm algorithms m → AllHaveKeys realm algorithms n
-keys_after_remove realm algorithms m n name updates all = λ q.
-    let P : Option (User _) → Type 0 = λ o. IfSome o (HasKeys realm algorithms q) in
+    → AllHaveKeys realm m → AllHaveKeys realm n
+keys_after_remove realm m n name updates all = λ q.
+    let P : Option (User _) → Type 0 = λ o. IfSome o (HasKeys realm q) in
     subst P (sym (btree_map_updates_text name m n None updates q))
     (elim (bytes_eq name q) as (λ b. P (cond b None (get_by_text m q)))
     [ true ↦ tt | false ↦ all q ])
@@ -89,24 +89,56 @@ key_with r name a p =
     option_and_then (λ (user : RegisteredUser). key_of r user a)
     (option_map (λ secret. record { username = name; secret = secret }) p)
 
--- the key that a look-up finds is the one that the definitions name
-pub key_found : {A : Type 0} (realm : List ℕ) (algorithms : AlgorithmSet)
-    (m : BTreeMap (String A) (User A)) (name : List ℕ) (a : IntegrityAlgorithm)
-    (o : Option (User A))
-    → o ≡ get_by_text m name → AllHaveKeys realm algorithms m
+-- both algorithms are in the set of both
+in_both : (a : IntegrityAlgorithm) → contains a Both ≡ true
+in_both Sha1 = refl
+in_both Sha256 = refl
+
+-- the key that a look-up finds is the one that the definitions name, if all algorithms are supported
+pub key_found : {A : Type 0} (realm : List ℕ) (m : BTreeMap (String A) (User A)) (name : List ℕ)
+    (a : IntegrityAlgorithm) (o : Option (User A))
+    → o ≡ get_by_text m name → AllHaveKeys realm m
     → option_and_then (λ u. key_in u a) o
-    ≡ key_at (record { realm = realm; algorithms = algorithms; secrets = secrets_seen m.entries })
-    name a
-key_found {A = A} realm algorithms m name a o found all =
-    with_keys o (subst (λ x. IfSome x (HasKeys realm algorithms name)) (sym found) (all name))
+    ≡ key_at (record { realm = realm; algorithms = Both; secrets = secrets_seen m.entries }) name a
+key_found {A = A} realm m name a o found all =
+    with_keys o (subst (λ x. IfSome x (HasKeys realm name)) (sym found) (all name))
     ∙ ap (key_with
-    (record { realm = realm; algorithms = algorithms; secrets = secrets_seen m.entries }) name a)
+    (record { realm = realm; algorithms = Both; secrets = secrets_seen m.entries }) name a)
     (ap (option_map (λ u. secret_of u)) found ∙ sym (get-secrets_seen m name))
   where
-    with_keys : (o : Option (User A)) → IfSome o (HasKeys realm algorithms name)
+    with_keys : (o : Option (User A)) → IfSome o (HasKeys realm name)
         → option_and_then (λ u. key_in u a) o
         ≡ key_with
-        (record { realm = realm; algorithms = algorithms; secrets = secrets_seen m.entries }) name a
+        (record { realm = realm; algorithms = Both; secrets = secrets_seen m.entries }) name a
         (option_map (λ u. secret_of u) o)
     with_keys None h = refl
-    with_keys (Some u) h = h a
+    with_keys (Some u) h = h a ∙ ap (λ b. key_if b a name realm (secret_of u)) (sym (in_both a))
+
+-- ---- the algorithms that are supported
+
+-- a supported algorithm has the key that it has if all are supported
+pub key_supported : (r : Registered) (supported : AlgorithmSet) (name : List ℕ)
+    (a : IntegrityAlgorithm) → contains a supported ≡ true
+    → key_at (record r { algorithms = Both }) name a
+    ≡ key_at (record r { algorithms = supported }) name a
+key_supported r supported name a h =
+    ap (λ b. option_and_then
+    (λ (user : RegisteredUser). key_if b a user.username r.realm user.secret)
+    (user_named r name)) (in_both a ∙ sym h)
+
+abbrev none_of : RegisteredUser → Option (List ℕ)
+none_of user = None
+
+no_key : (o : Option RegisteredUser) → option_and_then none_of o ≡ None
+no_key None = refl
+no_key (Some user) = refl
+
+-- any other has no key
+pub key_unsupported : (r : Registered) (supported : AlgorithmSet) (name : List ℕ)
+    (a : IntegrityAlgorithm) → contains a supported ≡ false
+    → key_at (record r { algorithms = supported }) name a ≡ None
+key_unsupported r supported name a h =
+    ap (λ b. option_and_then
+    (λ (user : RegisteredUser). key_if b a user.username r.realm user.secret)
+    (user_named r name)) h
+    ∙ no_key (user_named r name)

@@ -14,7 +14,7 @@ use Rattle.stun_judging.specs.declared.refusal.VerdictRefusal.TheVariants.{Unaut
 use Rattle.stun_judging.specs.Named.{Named, by_hash, by_name, named_in}
 use Rattle.stun_judging.specs.Reading.{Reading, reading_of, verified_under, is_complete}
 use Rattle.stun_judging.specs.Registered.{Registered, RegisteredUser, key_of}
-use Rattle.stun_judging.specs.Verdict.{ClientSeen, agreement, their_nonce}
+use Rattle.stun_judging.specs.Verdict.{ClientSeen, agreement_offering}
 
 -- ---- what a message claims
 
@@ -35,7 +35,7 @@ claim_by bytes (Some a) (Some user) =
 abbrev pub claim_read : AlgorithmSet → Feature → List ℕ → Reading → Option ClaimSeen
 claim_read algorithms feature bytes r =
     if is_some r.integrity && is_complete r
-    then claim_by bytes (agreement r (their_nonce r) (Some algorithms))
+    then claim_by bytes (agreement_offering algorithms r)
     (named_in r.userhash r.username feature)
     else None
 
@@ -50,18 +50,20 @@ abbrev pub is_claimed : Named → List ℕ → List ℕ → Bool
 is_claimed (by_name name) username realm = bytes_eq name username
 is_claimed (by_hash hash) username realm = bytes_eq (userhash_of username realm) hash
 
--- a key with the algorithm whose digest verifies under it, if one does
-abbrev pub verifying : Reading → Option (List ℕ) → Option (IntegrityAlgorithm × List ℕ)
-verifying r None = None
-verifying r (Some key) = option_map (λ by. (by, key)) (verified_under r key)
+-- an algorithm and the key for it, if a digest of the message verifies under the key
+abbrev pub verifying : Reading → IntegrityAlgorithm → Option (List ℕ)
+    → Option (IntegrityAlgorithm × List ℕ)
+verifying r a None = None
+verifying r a (Some key) = option_map (λ by. (a, key)) (verified_under r key)
 
--- the key of a user who was found, with the algorithm of the digest, if the message names the user,
--- and its digest verifies under the key that the user has at the realm for the agreed algorithm
+-- the agreed algorithm, and the key that the user who was found has for it at the realm, if the
+-- message names the user, and its digest verifies under this key
 abbrev pub found_key : Registered → ClaimSeen → RegisteredUser
     → Option (IntegrityAlgorithm × List ℕ)
 found_key users claim user =
     if is_claimed claim.user user.username users.realm
-    then verifying (reading_of claim.message) (key_of users user claim.algorithm) else None
+    then verifying (reading_of claim.message) claim.algorithm (key_of users user claim.algorithm)
+    else None
 
 -- the verdict that follows from this key: it is the user's with the agreed algorithm, or nobody's
 abbrev pub found_verdict : ClaimSeen → RegisteredUser → Option (IntegrityAlgorithm × List ℕ)

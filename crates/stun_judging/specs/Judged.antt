@@ -9,7 +9,7 @@ use Rattle.stun_judging.specs.declared.feature.Feature.{Feature}
 use Rattle.stun_judging.specs.declared.refusal.VerdictRefusal.{VerdictRefusal}
 use Rattle.stun_judging.specs.Reading.{Reading, verified_under}
 use Rattle.stun_judging.specs.Registered.{Registered, key_at}
-use Rattle.stun_judging.specs.Verdict.{ClientSeen, IsAccepted}
+use Rattle.stun_judging.specs.Verdict.{ClientSeen, IsAcceptedOffering}
 
 -- the user who is accepted, the algorithm that was agreed on, and the user's key for it
 pub record AcceptedSeen : Type 0 where
@@ -31,6 +31,6 @@ HasVerifyingKey users r accepted =
 abbrev pub JudgesAccepted : Registered → Feature → List ℕ → AlgorithmSet → Reading
     → Result AcceptedSeen VerdictRefusal
     → Type 0
-JudgesAccepted users feature nonce offered r given =
+JudgesAccepted users feature nonce supported r given =
     (client : ClientSeen)
-    → (client_judged given ≡ Ok client) ↔ IsAccepted users feature nonce (Some offered) r client
+    → (client_judged given ≡ Ok client) ↔ IsAcceptedOffering users feature nonce supported r client

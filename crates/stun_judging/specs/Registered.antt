@@ -66,6 +66,18 @@ with_user_by_keys r name keys =
 abbrev pub without_user : Registered → List ℕ → Registered
 without_user r name = record r { secrets = map.remove r.secrets name }
 
+-- the users of a table at a realm. Of the table only the users count: the algorithms are those of the
+-- realm. A user's keys depend on the name of the realm, so nobody in a table of another realm is a
+-- user here
+abbrev pub at_realm : Registered → Registered → Registered
+at_realm realm users = record realm {
+  secrets = if bytes_eq users.realm realm.realm then users.secrets else map.empty;
+}
+
+-- the realm without its users
+abbrev pub without_users : Registered → Registered
+without_users r = record r { secrets = map.empty }
+
 -- the registered user of a name
 abbrev pub user_named : Registered → List ℕ → Option RegisteredUser
 user_named r name =

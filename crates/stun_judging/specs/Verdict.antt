@@ -2,14 +2,14 @@
 -- others (RFC 8489, section 9.2.4).
 use Rattle.std.specs.Prelude.{◌≡◌, ℕ, List, [], ◌∷◌, Bool, true, false}
 use Rattle.std.specs.Prelude.{not, ◌&&◌, ◌||◌, if◌then◌else◌, Option, Some, None}
-use Rattle.std.specs.Option.{is_none, option_and_then, option_map_or, unwrap_or, IsSome}
+use Rattle.std.specs.Option.{is_none, is_some, option_and_then, option_map_or, unwrap_or, IsSome}
 use Rattle.std.specs.List.{find}
 use Rattle.std.specs.Str.{bytes_eq}
 use Rattle.std.specs.declared.result.Result.{Result}
 use Rattle.std.specs.declared.result.Result.TheVariants.{Ok, Err}
 use Rattle.std.specs.FinMap as map
 use Rattle.stun_base.specs.declared.keys.algorithm.IntegrityAlgorithm.{IntegrityAlgorithm}
-use Rattle.stun_base.specs.declared.keys.algorithm.IntegrityAlgorithm.TheVariants.{Sha1}
+use Rattle.stun_base.specs.declared.keys.algorithm.IntegrityAlgorithm.TheVariants.{Sha1, Sha256}
 use Rattle.stun_judging.specs.declared.algorithm_set.AlgorithmSet.{AlgorithmSet}
 use Rattle.stun_judging.specs.declared.feature.Feature.{Feature}
 use Rattle.stun_judging.specs.declared.refusal.VerdictRefusal.{VerdictRefusal}
@@ -148,6 +148,34 @@ abbrev pub verdict : Registered → Feature → List ℕ → Option AlgorithmSet
 verdict users feature ours offered r =
     or_refused (verdict_refusal users feature ours offered r)
     (client_of users feature ours offered r)
+
+-- ---- a server that offers the algorithms that it supports
+
+-- whether a message has PASSWORD-ALGORITHMS or PASSWORD-ALGORITHM at a server that offers no list,
+-- because HMAC-SHA1 is the only algorithm that it supports
+abbrev pub is_unoffered : AlgorithmSet → Reading → Bool
+is_unoffered supported r =
+    not (contains Sha256 supported) && (is_some r.algorithms || is_some r.algorithm)
+
+-- the algorithm that both sides agree on, if the server offers a list of the algorithms that it
+-- supports, or no list if HMAC-SHA1 is the only one
+abbrev pub agreement_offering : AlgorithmSet → Reading → Option IntegrityAlgorithm
+agreement_offering supported r =
+    if is_unoffered supported r then None else agreement r (their_nonce r) (Some supported)
+
+-- the verdict of such a server
+abbrev pub verdict_offering : Registered → Feature → List ℕ → AlgorithmSet → Reading
+    → Result ClientSeen VerdictRefusal
+verdict_offering users feature ours supported r =
+    if is_some r.integrity && is_unoffered supported r then Err BadRequest
+    else verdict users feature ours (Some supported) r
+
+-- such a server accepts a message from a client: the message has algorithms only if some were
+-- offered, and all else is as for every server
+pub record IsAcceptedOffering (users : Registered) (feature : Feature) (ours : List ℕ)
+    (supported : AlgorithmSet) (r : Reading) (client : ClientSeen) : Type 0 where
+  pub offered : is_unoffered supported r ≡ false
+  pub accepted : IsAccepted users feature ours (Some supported) r client
 
 -- ---- several nonces
 

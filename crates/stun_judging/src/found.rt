@@ -6,7 +6,7 @@
 //! let Some(claim) = realm.claim_in(&read) else { .. judge .. };
 //! if !claim.has_nonce(&nonce) { .. judge .. }
 //! match realm.verify_found(&claim, &look_up(claim.user())?) {
-//!     Some((_, key)) => .. accepted: sign the response with claim.algorithm() and key ..,
+//!     Some((algorithm, key)) => .. accepted: sign the response with algorithm and key ..,
 //!     None => .. refused: answer 401 ..,
 //! }
 //! ```
@@ -26,7 +26,7 @@ use crate::named_user::NamedUser;
 use crate::read_message::ReadMessage;
 use crate::realm::Realm;
 use crate::stored_keys::StoredKeys;
-use crate::verdict::{agree_on_algorithm, is_same_nonce};
+use crate::verdict::{agree_on_algorithm, is_same_nonce, is_unoffered};
 use std::alloc::Allocator;
 use std::fmt;
 use std::marker::Model;
@@ -232,7 +232,8 @@ impl<A: Memory> Realm<A> {
     /// REALM, a NONCE, and a user name or, if the realm accepts hashes, the hash of a user name. If
     /// the nonce has the security bit *Password algorithms*, and the message has algorithms, these
     /// agree with the algorithms that the realm supports. Otherwise the algorithm of the claim is
-    /// HMAC-SHA1, even if the realm does not support it.
+    /// HMAC-SHA1, even if the realm does not support it. If HMAC-SHA1 is the only algorithm that
+    /// the realm supports, it offers no list, and the message has no algorithms.
     ///
     /// Returns `None` for every other message, and `judge` refuses such a message whatever users
     /// the realm has. This call does not check the class of the message, so reject responses before
@@ -250,6 +251,9 @@ impl<A: Memory> Realm<A> {
         reading.realm?;
         let nonce = reading.nonce?;
         let user = self.named_in(read)?;
+        if is_unoffered(self.algorithms(), reading) {
+            return None;
+        }
         let algorithm = agree_on_algorithm(reading, nonce, Some(self.algorithms()))?;
         Some(UserClaim {
             read,
@@ -261,15 +265,15 @@ impl<A: Memory> Realm<A> {
 
     /// Verifies that a message was signed by a user whom you found: it names the user, the user has
     /// a key for the agreed algorithm, and the signature is valid under that key. If so, returns
-    /// the algorithm of the signature, and the key. Otherwise returns `None`.
+    /// the agreed algorithm, and the key. Otherwise returns `None`.
     ///
     /// If the call returns a key, the message is accepted from this user under the message's own
     /// nonce. `judge_of`, called with this nonce and with the user that `prepare_user` returns,
     /// gives the same verdict. Check with `UserClaim::has_nonce` that the nonce is current.
     ///
-    /// Sign the response with this key and with the agreed algorithm, which `UserClaim::algorithm`
-    /// returns. The signature of the message itself may have the other algorithm. The call derives
-    /// only this one key, and does not allocate.
+    /// Sign the response with this key and this algorithm, which is the one that
+    /// `UserClaim::algorithm` returns. The signature of the message itself may have the other
+    /// algorithm. The call derives only this one key, and does not allocate.
     ///
     /// Contracts: law `found_users_are_judged_as_prepared_ones`.
     pub fn verify_found(
@@ -285,7 +289,7 @@ impl<A: Memory> Realm<A> {
         }
         let key = user.prepare_key(self.alloc, self.algorithms(), claim.algorithm, realm)?;
         match claim.read.verified_under(&key) {
-            Some(by) => Some((by, key)),
+            Some(_) => Some((claim.algorithm, key)),
             None => None,
         }
     }

@@ -5,7 +5,7 @@ ghost use Rattle.std.specs.Prelude.{false, List, [], ◌∷◌, ◌++◌, length
 ghost use Rattle.std.specs.Prelude.{Some, None, if◌then◌else◌, IsUtf8};
 ghost use Rattle.std.specs.Prelude.{◌%◌};
 ghost use Rattle.std.specs.List.{AllByRecursion};
-ghost use Rattle.std.specs.Option.{is_some, option_and_then};
+ghost use Rattle.std.specs.Option.{IsSome, is_some, option_and_then};
 ghost use Rattle.stun_base.specs.Credentials.{NameAndPassword};
 ghost use Rattle.stun_base.specs.Keys.{long_term_key};
 ghost use Rattle.stun_base.specs.MessageType.{class_of, class_in, is_error};
@@ -31,9 +31,10 @@ ghost use Rattle.stun_judging.specs.Nonces.{nonce_of, security_bits, spelled_bit
 ghost use Rattle.stun_judging.specs.OtherUsers.{MeansAnother, VerifiesUnderNone, with_secret_for};
 ghost use Rattle.stun_judging.specs.Reading.{Reading, error_code, reading_of, verified_under};
 ghost use Rattle.stun_judging.specs.Registered.{Registered, RegisteredUser, key_at, UserSecret};
-ghost use Rattle.stun_judging.specs.Registered.{stored_key, with_user, with_user_by_keys};
+ghost use Rattle.stun_judging.specs.Registered.{at_realm, stored_key, with_user};
+ghost use Rattle.stun_judging.specs.Registered.{with_user_by_keys};
 ghost use Rattle.stun_judging.specs.Registered.{without_user};
-ghost use Rattle.stun_judging.specs.Verdict.{their_nonce, verdict};
+ghost use Rattle.stun_judging.specs.Verdict.{their_nonce, verdict, verdict_offering};
 ghost use Rattle.stun_judging.specs.Signed.{Added, HasRoomFor, IsBuilt, IsSignable, IsSmall};
 ghost use Rattle.stun_judging.specs.Signed.{IsText, IsUnsigned, IsWithinLimits, ReadsAs};
 ghost use Rattle.stun_judging.specs.Signed.{additions_of, error_attribute};
@@ -78,32 +79,43 @@ pub fn what_follows_integrity_is_not_read()
 }
 
 /// The verdict on a message depends only on the user whom the message names. A realm that has only
-/// this user judges the message, under each nonce and offer, like the realm that has all users. If
-/// this user is not registered, a realm without any users returns the same verdict.
+/// this user judges the message, under each nonce and offer, like the realm that has all users
+/// (`verdict`). If this user is not registered, a realm without any users returns the same verdict.
+/// So `judge_of` returns with this user of a table what `judge_among` returns with the table
+/// (`offering`).
 pub fn the_named_user_is_enough_to_judge()
-    ensures { (users : Registered) (feature : TheFeature) (nonce : List ℕ)
+    ensures verdict { (users : Registered) (feature : TheFeature) (nonce : List ℕ)
         (offered : Option AlgorithmSet) (r : Reading)
         → verdict (just users (option_and_then (user_of users)
         (named_in r.userhash r.username feature))) feature nonce offered r
         ≡ verdict users feature nonce offered r }
+    ensures offering { (realm users : Registered) (feature : TheFeature) (nonce : List ℕ)
+        (supported : AlgorithmSet) (r : Reading)
+        → verdict_offering (at_realm realm (just users (option_and_then (user_of users)
+        (named_in r.userhash r.username feature)))) feature nonce supported r
+        ≡ verdict_offering (at_realm realm users) feature nonce supported r }
 {}
 
 /// `verify_found` judges a message like `judge_of` with a prepared user. It returns the verdict
 /// that a realm with only the found user returns under the message's own nonce (`verdict`). So if
-/// `verify_found` returns a key, the message is accepted from that user. This key is the user's key
-/// for the agreed algorithm (`key`), and the signature is valid under it (`verifies`).
+/// `verify_found` returns a key, the message is accepted from that user. It returns the agreed
+/// algorithm (`algorithm`) with the user's key for this algorithm (`key`), and the signature is
+/// valid under this key (`verifies`).
 pub fn found_users_are_judged_as_prepared_ones()
     ensures verdict { (users : Registered) (user : RegisteredUser) (feature : TheFeature)
         (bytes : List ℕ) (claim : ClaimSeen) → claim_of users.algorithms feature bytes ≡ Some claim
-        → verdict (just users (Some user)) feature (their_nonce (reading_of bytes))
-        (Some users.algorithms) (reading_of bytes)
+        → verdict_offering (just users (Some user)) feature (their_nonce (reading_of bytes))
+        users.algorithms (reading_of bytes)
         ≡ found_verdict claim user (found_key users claim user) }
+    ensures algorithm { (users : Registered) (user : RegisteredUser) (claim : ClaimSeen)
+        (found : IntegrityAlgorithm × List ℕ) → found_key users claim user ≡ Some found
+        → found.0 ≡ claim.algorithm }
     ensures key { (users : Registered) (user : RegisteredUser) (claim : ClaimSeen)
         (found : IntegrityAlgorithm × List ℕ) → found_key users claim user ≡ Some found
-        → key_at (just users (Some user)) user.username claim.algorithm ≡ Some found.1 }
+        → key_at (just users (Some user)) user.username found.0 ≡ Some found.1 }
     ensures verifies { (users : Registered) (user : RegisteredUser) (claim : ClaimSeen)
         (found : IntegrityAlgorithm × List ℕ) → found_key users claim user ≡ Some found
-        → verified_under (reading_of claim.message) found.1 ≡ Some found.0 }
+        → IsSome (verified_under (reading_of claim.message) found.1) }
 {}
 
 /// A user who is added with a password has the long-term key of this name, realm and password for

@@ -33,4 +33,5 @@ pub mod stored_keys;
 pub mod told;
 pub mod user;
 mod user_secret;
+mod users_at;
 mod verdict;

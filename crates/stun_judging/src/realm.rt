@@ -105,11 +105,8 @@ impl<A: Memory> Realm<A> {
         self.registry.supported()
     }
 
-    /// Sets the supported algorithms, and makes the keys of each user anew. Of a user's stored
-    /// keys, the realm then uses only the keys for these algorithms. The call does not allocate.
-    ///
-    /// A user who was prepared for other algorithms must be prepared again (see
-    /// `LongTermServerUser::belongs_to`).
+    /// Sets the supported algorithms. Of each user's keys, the realm then uses only the keys for
+    /// these algorithms. The call does not allocate.
     pub fn set_algorithms(&mut self, algorithms: AlgorithmSet)
         ensures { self.new ≡ record self.old {
           registered = record self.old.registered { algorithms = algorithms };
@@ -153,8 +150,9 @@ impl<A: Memory> Realm<A> {
         self.registry.find_name_by_hash(hash)
     }
 
-    /// Adds a user with a key for each supported algorithm (RFC 8489, section 9.2.2), or replaces
-    /// the password or keys of a user with this name.
+    /// Adds a user with a key for each algorithm (RFC 8489, section 9.2.2), or replaces the
+    /// password or keys of a user with this name. The realm uses the keys for the algorithms that
+    /// it supports, including algorithms that it supports later.
     ///
     /// A name of more than 513 bytes is accepted, but only a USERHASH can name such a user, because
     /// USERNAME is limited to 513 bytes (section 14.3).
@@ -203,9 +201,9 @@ impl<A: Memory> Realm<A> {
         self.registry.remove_user(name);
     }
 
-    /// Prepares a user whom you look up elsewhere: makes a key for each algorithm that the realm
-    /// supports now (RFC 8489, section 9.2.2). Pass the result to `judge_of`. The user is not added
-    /// to the realm.
+    /// Prepares a user whom you look up elsewhere: makes a key for each algorithm (RFC 8489, section
+    /// 9.2.2). Pass the result to `judge_of`, at this realm or at another realm with this name. The
+    /// user is not added to the realm.
     ///
     /// Fails if an allocation fails.
     pub fn prepare_user(

@@ -1,4 +1,4 @@
-//! The users of a realm, and the keys of each user for the supported algorithms.
+//! The users of a realm, and the keys of each user for both algorithms.
 
 ghost use Rattle.std.specs.Prelude.{◌≡◌, ◌↔◌, Option, None, Some, IsTrue, OnOk};
 ghost use Rattle.std.specs.Prelude.{OnErr, IfOk, IfErr, IfNone, IfSome, IsOk};
@@ -8,12 +8,10 @@ ghost use Rattle.std.specs.BTreeMap.{Updates, UpdatesBy, get_by_text};
 ghost use Rattle.std.specs.Cmp.Lexicographic.{slice_cmp};
 ghost use Rattle.std.specs.Option.{option_copied};
 ghost use Rattle.std.specs.String.{string_bytes, string_cmp};
-ghost use Rattle.stun_judging.specs.Algorithms.{contains};
 ghost use Rattle.stun_judging.specs.Named.{just};
-ghost use Rattle.stun_judging.specs.Registered.{key_at, key_if, name_with_hash, empty_realm};
+ghost use Rattle.stun_judging.specs.Registered.{empty_realm, key_at, key_from, name_with_hash};
 ghost use Rattle.stun_judging.specs.Registered.{with_user, with_user_by_keys, without_user};
 ghost use Rattle.stun_judging.specs.code.UserSecret.{secret_seen};
-ghost use Rattle.stun_judging.specs.code.Users.{AllHaveKeys, secrets_seen};
 
 use crate::algorithm_set::AlgorithmSet;
 use crate::name_index::NameIndex;
@@ -28,8 +26,8 @@ use stun_base::key::userhash;
 use stun_base::memory::Memory;
 use stun_base::prepared_key::PreparedKey;
 
-/// A user: the password or stored keys, and the keys for the supported algorithms, prepared to
-/// verify signatures.
+/// A user: the password or stored keys, and the keys for both algorithms, prepared to verify
+/// signatures. So the same user fits a realm with any algorithms.
 #[derive(Drop)]
 pub(crate) struct User<A: Allocator> {
     /// The contents are in a box, because they are long: a node of the tree reserves room for
@@ -45,81 +43,43 @@ pub(crate) struct KeptUser<A: Allocator> {
     sha256: Option<PreparedKey<A>>,
 }
 
-/// Prepares the key of a user for an algorithm. Returns `None` if the algorithm is not supported,
-/// or if the user has no key for it. It does not allocate.
+/// Prepares the key of a user for an algorithm. Returns `None` if the user has stored keys, and
+/// none of them is for this algorithm. It does not allocate.
 fn prepare_key<A: Allocator + Copy>(
     alloc: A,
-    supported: AlgorithmSet,
     algorithm: IntegrityAlgorithm,
     name: &str,
     realm: &str,
     secret: &UserSecret<A>,
 ) -> Option<PreparedKey<A>>
-    ensures { result ≡ key_if (contains algorithm supported) algorithm name.now realm.now
-        (secret_seen secret.now) }
+    ensures { result ≡ key_from algorithm name.now realm.now (secret_seen secret.now) }
 {
-    if supported.contains(algorithm) {
-        match secret.make_key(alloc, algorithm, name, realm) {
-            Some(key) => Some(PreparedKey::new(key, algorithm)),
-            None => None,
-        }
-    } else {
-        None
+    match secret.make_key(alloc, algorithm, name, realm) {
+        Some(key) => Some(PreparedKey::new(key, algorithm)),
+        None => None,
     }
 }
 
 impl<A: Memory> User<A> {
     ghost use Rattle.stun_judging.specs.code.Users.{HasKeys, key_in, secret_of};
 
-    /// Creates a user with this secret, and prepares the keys for the algorithms in `supported`.
-    /// Fails if an allocation fails.
-    fn new(
-        alloc: A,
-        name: &str,
-        realm: &str,
-        secret: UserSecret<A>,
-        supported: AlgorithmSet,
-    ) -> Result<Self, AllocError>
-        ensures keys { IfOk result (HasKeys realm.now supported name.now) }
+    /// Creates a user with this secret, and prepares the keys for both algorithms. Fails if an
+    /// allocation fails.
+    fn new(alloc: A, name: &str, realm: &str, secret: UserSecret<A>) -> Result<Self, AllocError>
+        ensures keys { IfOk result (HasKeys realm.now name.now) }
         ensures secret { IfOk result (λ user. secret_of user ≡ secret_seen secret) }
         ensures granted { A.grants → IsOk result }
     {
+        let sha1 = prepare_key(alloc, IntegrityAlgorithm::Sha1, name, realm, &secret);
+        let sha256 = prepare_key(alloc, IntegrityAlgorithm::Sha256, name, realm, &secret);
         let kept = KeptUser {
             secret,
-            sha1: None,
-            sha256: None,
+            sha1,
+            sha256,
         };
-        let mut user = User {
+        Ok(User {
             kept: A::boxed(alloc, kept)?,
-        };
-        user.set_keys(alloc, name, realm, supported);
-        Ok(user)
-    }
-
-    /// Makes the user's keys again, for the algorithms in `supported`. It does not allocate.
-    fn set_keys(&mut self, alloc: A, name: &str, realm: &str, supported: AlgorithmSet)
-        ensures keys { HasKeys realm.now supported name.now self.new }
-        ensures secret { secret_of self.new ≡ secret_of self.old }
-    {
-        let secret = &self.kept.secret;
-        let sha1 = prepare_key(
-            alloc,
-            supported,
-            IntegrityAlgorithm::Sha1,
-            name,
-            realm,
-            secret,
-        );
-        let sha256 = prepare_key(
-            alloc,
-            supported,
-            IntegrityAlgorithm::Sha256,
-            name,
-            realm,
-            secret,
-        );
-        self.kept.sha1 = sha1;
-        self.kept.sha256 = sha256;
+        })
     }
 
     /// Returns the user's key for an algorithm, or `None` if the user has no such key.
@@ -161,7 +121,7 @@ impl<A: Allocator> Model for Registry<A> {
       secrets = secrets_seen r.users.entries;
     } };
 
-    ghost invariant = { λ r. AllHaveKeys (string_bytes r.realm) r.supported r.users
+    ghost invariant = { λ r. AllHaveKeys (string_bytes r.realm) r.users
         × IsNameIndexOf (string_bytes r.realm) (secrets_seen r.users.entries) r.hashed };
 }
 
@@ -200,14 +160,43 @@ impl<A: Memory> Registry<A> {
         self.supported == other.supported && self.realm.as_str() == other.realm.as_str()
     }
 
-    /// Returns the key of a registered user for an algorithm, or `None` if there is no such user or
-    /// key.
+    /// Returns the key of a registered user for an algorithm. Returns `None` if there is no such
+    /// user or key, or if the algorithm is not supported.
+    #[tactic(auto, using(crate::proofs::TableUsers::key_own))]
     pub(crate) fn find_key(
         &self,
         name: &str,
         algorithm: IntegrityAlgorithm,
     ) -> Option<&PreparedKey<A>>
         ensures { option_copied result ≡ key_at self.now name.now algorithm }
+    {
+        self.find_key_among(self.supported(), name, algorithm)
+    }
+
+    /// Returns the key of a registered user for an algorithm, as if the registry supported these
+    /// algorithms in place of its own.
+    #[tactic(auto, using(crate::proofs::UserMaps::key_supported, crate::proofs::UserMaps::key_unsupported))]
+    pub(crate) fn find_key_among(
+        &self,
+        supported: AlgorithmSet,
+        name: &str,
+        algorithm: IntegrityAlgorithm,
+    ) -> Option<&PreparedKey<A>>
+        ensures { option_copied result
+            ≡ key_at (record self.now { algorithms = supported }) name.now algorithm }
+    {
+        if supported.contains(algorithm) {
+            self.find_stored_key(name, algorithm)
+        } else {
+            None
+        }
+    }
+
+    /// Returns the key of a registered user for an algorithm, whether or not the algorithm is
+    /// supported. Returns `None` if there is no such user or key.
+    fn find_stored_key(&self, name: &str, algorithm: IntegrityAlgorithm) -> Option<&PreparedKey<A>>
+        ensures { option_copied result
+            ≡ key_at (record self.now { algorithms = AlgorithmSet.Both }) name.now algorithm }
     {
         match self.users.get(name) {
             Some(user) => user.find_key(algorithm),
@@ -257,7 +246,7 @@ impl<A: Memory> Registry<A> {
     {
         let alloc = *name.allocator();
         let realm = self.realm.as_str();
-        let user = User::new(alloc, name.as_str(), realm, secret, self.supported)?;
+        let user = User::new(alloc, name.as_str(), realm, secret)?;
         let hash = userhash(name.as_str(), self.realm.as_str());
         self.hashed.insert(hash, A::text(alloc, name.as_str())?)?;
         match put_user(&mut self.users, name, user) {
@@ -299,14 +288,10 @@ impl<A: Memory> Registry<A> {
         }
     }
 
-    /// Sets the supported algorithms, and makes the keys of each user again. Each user then has a
-    /// key for each of these algorithms, but a user with stored keys has only the keys that were
-    /// stored.
+    /// Sets the supported algorithms.
     pub(crate) fn set_supported(&mut self, supported: AlgorithmSet)
         ensures { self.new ≡ record self.old { algorithms = supported } }
     {
-        let alloc = *self.realm.allocator();
-        make_keys(&mut self.users, alloc, self.realm.as_str(), supported);
         self.supported = supported;
     }
 }
@@ -346,21 +331,4 @@ fn take_user<A: Allocator + Copy>(
 {
     let (name, _) = users.remove_entry(name)?;
     Some(name)
-}
-
-/// Makes the keys of all users again, for the algorithms in `supported`. It does not allocate.
-fn make_keys<A: Allocator, B: Allocator + Copy>(
-    users: &mut BTreeMap<String<A>, User<B>, A>,
-    alloc: B,
-    realm: &str,
-    supported: AlgorithmSet,
-)
-    ensures keys { AllHaveKeys realm.now supported users.new }
-    ensures secrets { secrets_seen users.new.entries ≡ secrets_seen users.old.entries }
-{
-    // `retain` removes nobody here: it only serves to walk over the users with their names.
-    users.retain(|name, user| {
-        user.set_keys(alloc, name.as_str(), realm, supported);
-        true
-    });
 }

@@ -9,9 +9,9 @@ use std::alloc::{Allocator, Global};
 use std::fmt;
 use std::marker::Model;
 
-/// A user who is passed along with a message (`Realm::judge_of`), with keys for the algorithms that
-/// the realm supported when the user was prepared. `Realm::prepare_user` makes such a user from a
-/// password, and `Realm::prepare_user_with_keys` from stored keys.
+/// A user who is passed along with a message (`Realm::judge_of`), with keys for both algorithms.
+/// `Realm::prepare_user` makes such a user from a password, and `Realm::prepare_user_with_keys` from
+/// stored keys.
 ///
 /// `Debug` shows nothing of the contents.
 ///
@@ -34,13 +34,20 @@ impl<A: Allocator> Model for LongTermServerUser<A> {
 }
 
 impl<A: Allocator + Copy> LongTermServerUser<A> {
-    /// Returns whether this user can be passed to a realm: whether the user was prepared for a
-    /// realm with this name, and for the algorithms that this realm supports now.
+    /// Returns the name of the realm that this user was prepared for.
+    pub fn realm(&self) -> &str
+        ensures { result.now ≡ self.now.realm }
+    {
+        self.registry.realm()
+    }
+
+    /// Returns whether this user was prepared for a realm with this name, and for the algorithms
+    /// that this realm supports now.
     ///
-    /// If so, you can keep the prepared user and pass it with every message, because preparing it
-    /// again from the same name and secret would give the same result. If not, prepare the user
-    /// again, because otherwise messages are judged with keys for the realm and the algorithms that
-    /// the user was prepared for. The call does not allocate.
+    /// If so, preparing the user again from the same name and secret would give the same result. If
+    /// not, prepare the user again before you call `Realm::exchange_users`, because the realm then
+    /// gets the name and the algorithms that the user was prepared for. `Realm::judge_of` needs
+    /// only that the name is the same. The call does not allocate.
     pub fn belongs_to(&self, realm: &Realm<A>) -> bool
         ensures { IsTrue result ↔ ((self.now.realm ≡ realm.now.registered.realm)
             × (self.now.algorithms ≡ realm.now.registered.algorithms)) }

@@ -7,7 +7,8 @@ ghost use Rattle.std.specs.Str.{bytes_eq};
 ghost use Rattle.stun_judging.specs.Algorithms.{has as is_among, offered_list, same_list};
 ghost use Rattle.stun_judging.specs.Judged.{HasVerifyingKey, client_judged};
 ghost use Rattle.stun_judging.specs.Nonces.{security_bits};
-ghost use Rattle.stun_judging.specs.Verdict.{agreement, bits_differ, nonce_refusal, verdict};
+ghost use Rattle.stun_judging.specs.Verdict.{agreement, bits_differ, is_unoffered, nonce_refusal};
+ghost use Rattle.stun_judging.specs.Verdict.{verdict};
 ghost use Rattle.stun_judging.specs.code.Claims.{name_of};
 ghost use Rattle.stun_judging.specs.code.ReadingSeen.{reading_seen};
 ghost use Rattle.stun_types.specs.PasswordAlgorithms.{integrity_of};
@@ -20,10 +21,10 @@ use crate::named_user::NamedUser;
 use crate::nonce::{NonceSecurityBits, asks_for_algorithms};
 use crate::reading::MessageReading;
 use crate::refusal::VerdictRefusal;
-use crate::registry::Registry;
-use std::alloc::Allocator;
+use crate::users_at::UsersAt;
 use stun_base::algorithm::IntegrityAlgorithm;
 use stun_base::compare::is_same_text;
+use stun_base::memory::Memory;
 use stun_types::attribute::{PasswordAlgorithmValue, PasswordAlgorithms};
 
 /// Lists the password algorithms that were offered, the strongest first.
@@ -75,6 +76,15 @@ pub(crate) fn agree_on_algorithm(
     }
 }
 
+/// Returns whether a message has algorithms although a server that supports these algorithms offers
+/// none, because HMAC-SHA1 is the only one.
+pub(crate) fn is_unoffered(supported: AlgorithmSet, reading: &MessageReading<'_, '_>) -> bool
+    ensures { result ≡ is_unoffered supported (reading_seen reading.now) }
+{
+    !supported.contains(IntegrityAlgorithm::Sha256)
+        && (reading.algorithms.is_some() || reading.algorithm.is_some())
+}
+
 /// Returns whether both nonces have security bits, and the bits differ.
 fn are_bits_different(ours: &str, theirs: &str) -> bool
     ensures { result ≡ bits_differ (security_bits ours.now) (security_bits theirs.now) }
@@ -99,19 +109,19 @@ fn choose_refusal(ours: &str, theirs: &str) -> VerdictRefusal
     }
 }
 
-/// Returns the name of the user whom a message names. A hash is looked up in the registry. Returns
-/// `None` if no registered name has the hash, or if `feature` does not allow hashes.
-fn find_name<'a, A: Allocator + Copy>(
-    registry: &'a Registry<A>,
+/// Returns the name of the user whom a message names. A hash is looked up among the users. Returns
+/// `None` if no user's name has the hash, or if `feature` does not allow hashes.
+fn find_name<'a, A: Memory>(
+    users: &UsersAt<'a, '_, A>,
     feature: Feature,
     user: NamedUser<'a>,
 ) -> Option<&'a str>
-    ensures { option_copied result ≡ name_of registry.now feature user.entry }
+    ensures { option_copied result ≡ name_of users.now feature user.entry }
 {
     match user {
         NamedUser::ByHash(hash) => {
             if feature.is_possible() {
-                registry.find_name_by_hash(&hash)
+                users.find_name_by_hash(&hash)
             } else {
                 None
             }
@@ -132,17 +142,17 @@ pub(crate) fn is_same_nonce(theirs: &str, ours: &str) -> bool
 /// accepted, or fails with the first refusal that applies.
 ///
 /// It does not allocate and derives no key.
-pub(crate) fn judge_message<'a, A: Allocator + Copy>(
-    registry: &'a Registry<A>,
+pub(crate) fn judge_message<'a, A: Memory>(
+    users: &UsersAt<'a, '_, A>,
     feature: Feature,
     message: &JudgeableMessage<'a, '_, '_>,
     nonce: &str,
     offered: Option<AlgorithmSet>,
 ) -> Result<Accepted<'a, A>, VerdictRefusal>
-    ensures verdict { client_judged result ≡ verdict registry.now feature nonce.now offered
+    ensures verdict { client_judged result ≡ verdict users.now feature nonce.now offered
         (reading_seen message.now.reading.now) }
     ensures key { IfOk result
-        (HasVerifyingKey registry.now (reading_seen message.now.reading.now)) }
+        (HasVerifyingKey users.now (reading_seen message.now.reading.now)) }
 {
     let Some(claim) = &message.claim else {
         return Err(VerdictRefusal::Unauthorized);
@@ -153,10 +163,10 @@ pub(crate) fn judge_message<'a, A: Allocator + Copy>(
     if !is_same_nonce(claim.nonce, nonce) {
         return Err(choose_refusal(nonce, claim.nonce));
     }
-    let Some(name) = find_name(registry, feature, claim.user) else {
+    let Some(name) = find_name(users, feature, claim.user) else {
         return Err(VerdictRefusal::Unauthorized);
     };
-    let Some(key) = registry.find_key(name, algorithm) else {
+    let Some(key) = users.find_key(name, algorithm) else {
         return Err(VerdictRefusal::Unauthorized);
     };
     match message.reading.verify_under(key) {

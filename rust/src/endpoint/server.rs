@@ -107,9 +107,10 @@ impl LongTerm {
 
     /// Sets the supported algorithms. By default both are supported.
     ///
-    /// If you change them, make a new table of users too (see [`Server`]), but you need not change
-    /// the secret. Nonces depend on the algorithms, so each client then gets one 401 or 438, and
-    /// signs its request again for the new settings.
+    /// If you change them, the users and the secret stay. Nonces depend on the algorithms, so each
+    /// client then gets one 401 or 438, and signs its request again for the new settings. A server
+    /// that supports only HMAC-SHA1 offers no list of algorithms, and refuses a signed request that
+    /// has one.
     ///
     /// If you remove HMAC-SHA256, a client of this library that has succeeded with it drops these
     /// challenges ([`WeakerChallenge`](super::DropReason::WeakerChallenge)), because an attacker
@@ -124,11 +125,11 @@ impl LongTerm {
     /// Sets whether clients may send a hash in place of a name (RFC 8489, section 14.4). By default
     /// they may.
     ///
-    /// If you change this setting, make a new table of users too (see [`Server`]), but you need not
-    /// change the secret. Nonces depend on this setting, so each client then gets one 401 or 438,
-    /// and signs its request again. But if you forbid hashes, a client of this library that has
-    /// succeeded with a hash drops these challenges, and its next request times out, as after the
-    /// removal of HMAC-SHA256 from the [`algorithms`](Self::algorithms).
+    /// If you change this setting, the users and the secret stay. Nonces depend on this setting, so
+    /// each client then gets one 401 or 438, and signs its request again. But if you forbid hashes,
+    /// a client of this library that has succeeded with a hash drops these challenges, and its next
+    /// request times out, as after the removal of HMAC-SHA256 from the
+    /// [`algorithms`](Self::algorithms).
     pub fn user_hashes(mut self, allowed: bool) -> LongTerm {
         self.user_hashes = allowed;
         self
@@ -294,17 +295,14 @@ impl ServerBuilder {
 /// # Changing the users or the settings
 ///
 /// To change the users, replace the `Arc<Users>`. To change settings, build another server with the
-/// same secret, and replace the `Arc<Server>`.
+/// same secret, and replace the `Arc<Server>`. A server accepts what its own settings offer,
+/// whatever the settings of the server that made the [`Users`] or the [`User`], so these stay.
 ///
-/// If the realm, the [`algorithms`](LongTerm::algorithms) or the
-/// [`user_hashes`](LongTerm::user_hashes) differ, also make a new table with [`users`](Self::users)
-/// of the new server, and add the users again, from their passwords or their stored keys. Then
-/// replace the server and the table together, for example as one `Arc<(Server, Users)>`.
-///
-/// A table of users is made for these three settings, and a [`User`] for the realm and the
-/// algorithms. No call detects a table or a user that was made for other settings. With such a
-/// table, the server may refuse users who have the right password, or accept a request whose list
-/// of algorithms is not the one that it offered.
+/// Only the realm ties users to a server, because their keys depend on its name. A server that is
+/// passed users of another realm drops what it would judge with them
+/// ([`DropReason::OtherRealm`](super::DropReason::OtherRealm)). To change the realm, make a new
+/// table with [`users`](Self::users) of the new server, add the users again, and replace the server
+/// and the table together, for example as one `Arc<(Server, Users)>`.
 pub struct Server {
     core: server::Server<Global>,
     realm: String,
@@ -382,10 +380,8 @@ impl Server {
         })
     }
 
-    /// Returns an empty table of users for this server's realm,
-    /// [`algorithms`](LongTerm::algorithms) and [`user_hashes`](LongTerm::user_hashes). Use it only
-    /// with servers that have the same three settings, because no call detects a table that was
-    /// made for other settings ([`Server`] describes what happens).
+    /// Returns an empty table of users for this server's realm. You can use it with every server of
+    /// this realm, whatever the other settings of that server are.
     pub fn users(&self) -> Users {
         Users {
             core: granted(self.core.users()),
@@ -410,7 +406,8 @@ impl Server {
     ///
     /// - Bytes that are not a message, messages with a wrong FINGERPRINT, and requests and
     ///   indications with a method that you do not serve ([`methods`](ServerBuilder::methods)) are
-    ///   dropped.
+    ///   dropped. If `users` are of another realm, so is every datagram except for unsigned Binding
+    ///   requests that are answered because of [`open_binding`](ServerBuilder::open_binding).
     /// - A request gets the response of the first of these lines that applies (RFC 8489, sections
     ///   6.3.1 and 9.2.4):
     ///   - Success or 420, neither of them signed: it is an unsigned Binding request, and you
@@ -534,16 +531,13 @@ impl Server {
     }
 
     /// Derives the keys of a user, for [`receive_for`](Self::receive_for). You can cache the result
-    /// and use it with every server that has the same realm and
-    /// [`algorithms`](LongTerm::algorithms). A server with another realm or other algorithms may
-    /// refuse the user's requests, and no call detects this mistake.
+    /// and use it with every server of this realm.
     pub fn user(&self, credentials: LongTermCredentials) -> User {
         User(Arc::new(granted(self.core.user(credentials.0))))
     }
 
     /// Like [`user`](Self::user), but takes stored keys instead of a password. The keys must have
-    /// been made for this server's realm, because they depend on it. The result, too, works only
-    /// with servers that have the same realm and [`algorithms`](LongTerm::algorithms).
+    /// been made for this server's realm, because they depend on it.
     pub fn user_with_keys(&self, name: impl Into<String>, keys: StoredKeys) -> User {
         let user = self.core.user_with_keys(text(name.into()), keys);
         User(Arc::new(granted(user)))
@@ -553,7 +547,8 @@ impl Server {
     /// that you looked up, or `None` if there is no such user.
     ///
     /// If the name of `user` differs from the name in the request, as after a look-up that ignores
-    /// case, the client gets a 401.
+    /// case, the client gets a 401. If `user` is of another realm, the datagram is dropped
+    /// ([`OtherRealm`](super::DropReason::OtherRealm)).
     pub fn receive_for<'a>(
         &'a self,
         bytes: &'a [u8],
@@ -1386,9 +1381,8 @@ impl From<AllocError> for UserError {
 }
 
 /// The users of a realm, by name. [`Server::users`] makes an empty table. You can use it with every
-/// server that has the same realm, [`algorithms`](LongTerm::algorithms) and
-/// [`user_hashes`](LongTerm::user_hashes). If you change one of these settings, make a new table,
-/// and not a clone of the old one (see [`Server`]).
+/// server of this realm: it has each user's keys for both algorithms, and each server judges by its
+/// own settings (see [`Server`]).
 ///
 /// To change the users of a running server, change a clone of the table, and then use the clone in
 /// place of the table. Cloning needs no passwords. It prepares the derived keys again, which takes

@@ -11,8 +11,7 @@ ghost use Rattle.stun_c_endpoint.specs.ServerLaws.{Names};
 ghost use Rattle.stun_c_endpoint.specs.Told.{IsTold, ReceivesAs, failed, of_users, outcome_at};
 ghost use Rattle.stun_c_endpoint.specs.Told.{outcome_by, told_of};
 ghost use Rattle.stun_c_endpoint.specs.declared.received.Received.{Received};
-ghost use Rattle.stun_endpoint.specs.Causes.{cause_of};
-ghost use Rattle.stun_endpoint.specs.Judged.{realm_of_table};
+ghost use Rattle.stun_endpoint.specs.Causes.{cause_for};
 ghost use Rattle.stun_endpoint.specs.Lookups.{LookupSeen, identified_by, looked_up};
 ghost use Rattle.stun_endpoint.specs.Settings.{Settings};
 ghost use Rattle.stun_endpoint.specs.ShortTerm as short_term;
@@ -50,7 +49,7 @@ pub fn datagrams_are_judged_as_by_the_library()
         → CausedAs (caused_at (Ok realm) from seconds bytes) (pos n)
         → (address : SocketAddr) × (socket_address from ≡ Some address)
         × (n ≡ cause_number
-        (cause_of realm.settings (realm_of_table realm.users) address seconds bytes)) }
+        (cause_for realm.settings (Some realm.users.registered) address seconds bytes)) }
 {}
 
 /// States that the fields `why` and `code` of the caller's struct tell the reasons to drop a

@@ -7,9 +7,9 @@ use Rattle.stun_judging.specs.Found.{ClaimSeen, claim_of}
 use Rattle.stun_judging.specs.Named.{just}
 use Rattle.stun_judging.specs.Reading.{Reading, reading_of}
 use Rattle.stun_judging.specs.Registered.{RegisteredUser, key_at}
-use Rattle.stun_judging.specs.Verdict.{verdict}
+use Rattle.stun_judging.specs.Verdict.{verdict_offering}
 use Rattle.stun_base.specs.declared.keys.algorithm.IntegrityAlgorithm.{IntegrityAlgorithm}
-use Rattle.stun_endpoint.specs.Judged.{Realm, judged_in, realm_of_user}
+use Rattle.stun_endpoint.specs.Judged.{Realm, judged_in}
 use Rattle.stun_endpoint.specs.Lookups.{accepted_nonces, has_one_of}
 use Rattle.stun_endpoint.specs.Nonces.{nonce_in}
 use Rattle.stun_endpoint.specs.Settings.{Settings, registered_of}
@@ -22,7 +22,11 @@ waiting_claim s from epoch bytes =
 
 -- the server's realm with the user who was found
 abbrev pub realm_of_found : Settings → RegisteredUser → Realm
-realm_of_found s user = realm_of_user s (Some (just (registered_of s) (Some user)))
+realm_of_found s user = record {
+  users = just (registered_of s) (Some user);
+  feature = s.feature;
+  offered = s.algorithms;
+}
 
 -- a request is accepted from the user with this algorithm, for which the user has this key
 pub record IsAcceptedByKey (s : Settings) (user : RegisteredUser) (from : SocketAddr) (epoch : ℕ)
@@ -37,8 +41,8 @@ pub record IsRefusedAsNobody (s : Settings) (user : RegisteredUser) (from : Sock
     (epoch : ℕ) (r : Reading) : Type 0 where
   pub why : VerdictRefusal
   pub judged : judged_in s (realm_of_found s user) from epoch r ≡ Err why
-  pub nobody : verdict (registered_of s) s.feature (nonce_in s s.secret from epoch)
-      (Some s.algorithms) r
+  pub nobody : verdict_offering (registered_of s) s.feature (nonce_in s s.secret from epoch)
+      s.algorithms r
       ≡ Err why
 
 -- the key that the code finds is the one by which the request is accepted, or none if it is refused

@@ -5,7 +5,7 @@ use Rattle.std.specs.Prelude.{None}
 use Rattle.std.specs.Str.{bytes_eq}
 use Rattle.std.specs.declared.result.Result.{Result}
 use Rattle.std.specs.declared.result.Result.TheVariants.{Ok, Err}
-use Rattle.stun_judging.specs.Verdict.{told_refusal, ClientSeen, their_nonce, verdict}
+use Rattle.stun_judging.specs.Verdict.{told_refusal, ClientSeen, their_nonce, verdict_offering}
 use Rattle.stun_judging.specs.Reading.{Reading, is_malformed}
 use Rattle.stun_judging.specs.declared.refusal.VerdictRefusal.{VerdictRefusal}
 use Rattle.stun_judging.specs.declared.refusal.VerdictRefusal.TheVariants as refused
@@ -30,7 +30,7 @@ is_unauthorized (Err refused.StaleNonce) = false
 
 -- the verdict under the empty nonce, at a server without users
 abbrev pub verdict_under_none : Settings → Reading → Result ClientSeen VerdictRefusal
-verdict_under_none s r = verdict (registered_of s) s.feature [] (Some s.algorithms) r
+verdict_under_none s r = verdict_offering (registered_of s) s.feature [] s.algorithms r
 
 -- the cause of a bad request
 abbrev pub bad_cause : Reading → Cause

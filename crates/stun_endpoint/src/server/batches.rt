@@ -1,9 +1,9 @@
 //! Batches of datagrams that are received at once.
 
-ghost use Rattle.std.specs.Prelude.{◌≡◌, ◌++◌, IfOk, IsOk, OnErr, OnOk, length, slice_range, take};
+ghost use Rattle.std.specs.Prelude.{◌≡◌, ◌++◌, IfOk, IsOk, OnErr, OnOk, Some, length, slice_range};
+ghost use Rattle.std.specs.Prelude.{take};
 ghost use Rattle.stun_endpoint.specs.Batches.{FollowOneAnother, TakesRoom, outcome_at, outcomes_at};
 ghost use Rattle.stun_endpoint.specs.Batches.{received_all, received_one};
-ghost use Rattle.stun_endpoint.specs.Judged.{realm_of_table};
 
 use crate::batch::{Answers, Datagram, ReceivedAt};
 use crate::server::Server;
@@ -38,7 +38,7 @@ impl<A: Memory> Server<A> {
     ) -> Result<(), AllocError>
         // Each result is what `receive` returns for its datagram alone.
         ensures received { outcomes_at answers.new results.new.items
-            ≡ received_all self.now (realm_of_table users.now) now
+            ≡ received_all self.now (Some users.now.registered) now
             (take (length results.new.items) datagrams.now) }
         ensures all { OnOk result (length results.new.items ≡ length datagrams.now) }
         ensures ranges { FollowOneAnother 0 results.new.items (length answers.new) }
@@ -64,7 +64,7 @@ impl<A: Memory> Server<A> {
         answers: &mut Answers<A>,
     ) -> Result<ReceivedAt<'a, A>, AllocError>
         ensures received { IfOk result (λ one. outcome_at answers.new one
-            ≡ received_one self.now (realm_of_table users.now) now datagram.now) }
+            ≡ received_one self.now (Some users.now.registered) now datagram.now) }
         ensures start { IfOk result (λ one. one.start ≡ length answers.old) }
         ensures end { IfOk result (λ one. one.end ≡ length answers.new) }
         ensures room { IfOk result (λ one. TakesRoom one.received one.start one.end) }

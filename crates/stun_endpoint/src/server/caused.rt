@@ -8,18 +8,18 @@ ghost use Rattle.stun_judging.specs.Reading.{reading_of};
 ghost use Rattle.stun_base.specs.MessageType.{class_in};
 ghost use Rattle.stun_base.specs.declared.keys.algorithm.IntegrityAlgorithm.TheVariants.{Sha256};
 ghost use Rattle.stun_endpoint.specs.Answers.{is_fingerprinted};
-ghost use Rattle.stun_endpoint.specs.Causes.{cause_of, credential_cause, or_unknown};
-ghost use Rattle.stun_endpoint.specs.Judged.{judged, realm_of_table, realm_of_user};
+ghost use Rattle.stun_endpoint.specs.Causes.{cause_for, cause_of, credential_cause, or_unknown};
+ghost use Rattle.stun_endpoint.specs.Judged.{judged};
 ghost use Rattle.stun_endpoint.specs.Outcomes.{outcome_of};
 ghost use Rattle.stun_endpoint.specs.Received.{by_verdict, outcome_of_accepted, received_by};
-ghost use Rattle.stun_endpoint.specs.Received.{refused_with};
+ghost use Rattle.stun_endpoint.specs.Received.{received_for, refused_with};
 ghost use Rattle.stun_endpoint.specs.Responding.{is_undropped_request};
-ghost use Rattle.stun_endpoint.specs.code.Judges.{realm_of};
+ghost use Rattle.stun_endpoint.specs.code.Judges.{realm_of, users_of};
 ghost use Rattle.stun_endpoint.specs.code.Refusing.{cause_by_refusal, unknown_in};
 ghost use Rattle.stun_types.specs.Limits.{TEXT_LIMIT};
 
 use crate::arrived::Arrived;
-use crate::received::{Received, Refusal};
+use crate::received::{DropReason, Received, Refusal};
 use crate::server::Server;
 use crate::server::causes::Cause;
 use crate::server::judges::Judges;
@@ -51,9 +51,9 @@ impl<A: Memory> Server<A> {
         users: &'a Users<A>,
     ) -> Result<(Received<'a, A>, Option<Cause>), AllocError>
         ensures received { IfOk result (λ both. outcome_of both.0
-            ≡ received_by self.now (realm_of_table users.now) from now bytes.now) }
+            ≡ received_for self.now (Some users.now.registered) from now bytes.now) }
         ensures cause { IfOk result (λ both. both.1
-            ≡ cause_of self.now (realm_of_table users.now) from now bytes.now) }
+            ≡ cause_for self.now (Some users.now.registered) from now bytes.now) }
         ensures no_memory { is_undropped_request self.now.requires_fingerprint bytes.now
             ≡ false → IsOk result }
         ensures granted { A.grants → IsOk result }
@@ -76,16 +76,14 @@ impl<A: Memory> Server<A> {
         user: Option<&'a LongTermServerUser<A>>,
     ) -> Result<(Received<'a, A>, Option<Cause>), AllocError>
         ensures received { IfOk result (λ both. outcome_of both.0
-            ≡ received_by self.now (realm_of_user self.now (option_copied user.entry)) from now
-            bytes.now) }
+            ≡ received_for self.now (option_copied user.entry) from now bytes.now) }
         ensures cause { IfOk result (λ both. both.1
-            ≡ cause_of self.now (realm_of_user self.now (option_copied user.entry)) from now
-            bytes.now) }
+            ≡ cause_for self.now (option_copied user.entry) from now bytes.now) }
         ensures no_memory { is_undropped_request self.now.requires_fingerprint bytes.now
             ≡ false → IsOk result }
         ensures granted { A.grants → IsOk result }
     {
-        self.judge_datagram_with_cause(bytes, from, now, &self.choose_judges(user))
+        self.judge_datagram_with_cause(bytes, from, now, &Judges::from_user(user))
     }
 
     /// Returns the outcome of a datagram, and the cause of its refusal, or `None` if it is not
@@ -98,9 +96,32 @@ impl<A: Memory> Server<A> {
         judges: &Judges<'a, A>,
     ) -> Result<(Received<'a, A>, Option<Cause>), AllocError>
         ensures received { IfOk result (λ both. outcome_of both.0
-            ≡ received_by self.now (realm_of judges.now) from now bytes.now) }
+            ≡ received_for self.now (users_of judges.now) from now bytes.now) }
         ensures cause { IfOk result (λ both. both.1
-            ≡ cause_of self.now (realm_of judges.now) from now bytes.now) }
+            ≡ cause_for self.now (users_of judges.now) from now bytes.now) }
+        ensures no_memory { is_undropped_request self.now.requires_fingerprint bytes.now
+            ≡ false → IsOk result }
+        ensures granted { A.grants → IsOk result }
+    {
+        if self.has_other_realm(judges) {
+            return Ok((Received::Dropped(DropReason::OtherRealm), None));
+        }
+        self.judge_at_realm_with_cause(bytes, from, now, judges)
+    }
+
+    /// Returns the outcome of a datagram with users of the server's realm, and the cause of its
+    /// refusal, or `None` if it is not refused.
+    fn judge_at_realm_with_cause<'a>(
+        &'a self,
+        bytes: &'a [u8],
+        from: SocketAddr,
+        now: UnixTime,
+        judges: &Judges<'a, A>,
+    ) -> Result<(Received<'a, A>, Option<Cause>), AllocError>
+        ensures received { IfOk result (λ both. outcome_of both.0
+            ≡ received_by self.now (realm_of self.now judges.now) from now bytes.now) }
+        ensures cause { IfOk result (λ both. both.1
+            ≡ cause_of self.now (realm_of self.now judges.now) from now bytes.now) }
         ensures no_memory { is_undropped_request self.now.requires_fingerprint bytes.now
             ≡ false → IsOk result }
         ensures granted { A.grants → IsOk result }
@@ -129,11 +150,11 @@ impl<A: Memory> Server<A> {
         requires fingerprint { has_fingerprint ≡ is_fingerprinted read.now }
         requires request { class_in read.now ≡ MessageClass.Request }
         ensures received { IfOk result (λ both. outcome_of both.0
-            ≡ by_verdict self.now (realm_of judges.now) from now read.now
-            (judged self.now (realm_of judges.now) from now (reading_of read.now))) }
+            ≡ by_verdict self.now (realm_of self.now judges.now) from now read.now
+            (judged self.now (realm_of self.now judges.now) from now (reading_of read.now))) }
         ensures cause { IfOk result (λ both. both.1
             ≡ or_unknown self.now read.now
-            (credential_cause self.now (realm_of judges.now) from now (reading_of read.now))) }
+            (credential_cause self.now (realm_of self.now judges.now) from now (reading_of read.now))) }
         ensures granted { A.grants → IsOk result }
     {
         let mut buffer = self.responder.make_buffer();

@@ -4,11 +4,11 @@
 ghost use Rattle.std.specs.Option.{option_copied};
 ghost use Rattle.std.specs.Prelude.{◌≡◌, IfOk, IsOk, None, Some, false, if◌then◌else◌};
 ghost use Rattle.stun_judging.specs.Reading.{reading_of};
-ghost use Rattle.stun_endpoint.specs.Causes.{cause_of, code_of_cause, credential_cause};
+ghost use Rattle.stun_endpoint.specs.Causes.{cause_for, cause_of, code_of_cause};
+ghost use Rattle.stun_endpoint.specs.Causes.{credential_cause};
 ghost use Rattle.stun_endpoint.specs.Causes.{or_unknown};
-ghost use Rattle.stun_endpoint.specs.Judged.{realm_of_table, realm_of_user};
 ghost use Rattle.stun_endpoint.specs.Responding.{is_empty, is_undropped_request};
-ghost use Rattle.stun_endpoint.specs.code.Judges.{realm_of};
+ghost use Rattle.stun_endpoint.specs.code.Judges.{realm_of, users_of};
 ghost use Rattle.stun_endpoint.specs.code.Refusing.{bad_cause, cause_by_refusal, is_unauthorized};
 ghost use Rattle.stun_endpoint.specs.code.Refusing.{unauthorized_cause, verdict_under_none};
 ghost use Rattle.stun_extra.specs.Unknown.{unknown_types};
@@ -39,8 +39,9 @@ pub enum Cause {
     Incomplete,
     /// 400: the request has the current nonce, but not the algorithms that were offered with it.
     /// PASSWORD-ALGORITHMS is not the list that was offered, PASSWORD-ALGORITHM is not in the list,
-    /// or the request has only one of the two attributes. An attacker in between may have changed
-    /// the list.
+    /// or the request has only one of the two attributes. A server that supports only HMAC-SHA1
+    /// offers no list, so there the request has one of the attributes. An attacker in between may
+    /// have changed the list.
     OtherAlgorithms,
     /// 401: the security bits of the nonce differ from those of the server's nonces (RFC 8489,
     /// section 9.2), and the algorithms of the request agree with the nonce. An attacker may have
@@ -100,7 +101,7 @@ impl<A: Memory> Server<A> {
         users: &'a Users<A>,
     ) -> Result<Option<Cause>, AllocError>
         ensures cause { IfOk result (λ cause. cause
-            ≡ cause_of self.now (realm_of_table users.now) from now bytes.now) }
+            ≡ cause_for self.now (Some users.now.registered) from now bytes.now) }
         ensures no_memory { is_undropped_request self.now.requires_fingerprint bytes.now
             ≡ false → IsOk result }
         ensures granted { A.grants → IsOk result }
@@ -122,13 +123,12 @@ impl<A: Memory> Server<A> {
         user: Option<&'a LongTermServerUser<A>>,
     ) -> Result<Option<Cause>, AllocError>
         ensures cause { IfOk result (λ cause. cause
-            ≡ cause_of self.now (realm_of_user self.now (option_copied user.entry)) from now
-            bytes.now) }
+            ≡ cause_for self.now (option_copied user.entry) from now bytes.now) }
         ensures no_memory { is_undropped_request self.now.requires_fingerprint bytes.now
             ≡ false → IsOk result }
         ensures granted { A.grants → IsOk result }
     {
-        self.find_cause(bytes, from, now, &self.choose_judges(user))
+        self.find_cause(bytes, from, now, &Judges::from_user(user))
     }
 
     /// Returns why a datagram is refused, or `None` if it is not refused.
@@ -140,7 +140,28 @@ impl<A: Memory> Server<A> {
         judges: &Judges<'a, A>,
     ) -> Result<Option<Cause>, AllocError>
         ensures cause { IfOk result (λ cause. cause
-            ≡ cause_of self.now (realm_of judges.now) from now bytes.now) }
+            ≡ cause_for self.now (users_of judges.now) from now bytes.now) }
+        ensures no_memory { is_undropped_request self.now.requires_fingerprint bytes.now
+            ≡ false → IsOk result }
+        ensures granted { A.grants → IsOk result }
+    {
+        if self.has_other_realm(judges) {
+            return Ok(None);
+        }
+        self.find_cause_at_realm(bytes, from, now, judges)
+    }
+
+    /// Returns why a datagram is refused with users of the server's realm, or `None` if it is not
+    /// refused.
+    fn find_cause_at_realm<'a>(
+        &'a self,
+        bytes: &'a [u8],
+        from: SocketAddr,
+        now: UnixTime,
+        judges: &Judges<'a, A>,
+    ) -> Result<Option<Cause>, AllocError>
+        ensures cause { IfOk result (λ cause. cause
+            ≡ cause_of self.now (realm_of self.now judges.now) from now bytes.now) }
         ensures no_memory { is_undropped_request self.now.requires_fingerprint bytes.now
             ≡ false → IsOk result }
         ensures granted { A.grants → IsOk result }
@@ -161,7 +182,8 @@ impl<A: Memory> Server<A> {
     ) -> Result<Option<Cause>, AllocError>
         ensures cause { IfOk result (λ cause. cause
             ≡ or_unknown self.now read.now
-            (credential_cause self.now (realm_of judges.now) from now (reading_of read.now))) }
+            (credential_cause self.now (realm_of self.now judges.now) from now
+            (reading_of read.now))) }
         ensures granted { A.grants → IsOk result }
     {
         let epoch = self.compute_epoch(now);

@@ -6,19 +6,18 @@ ghost use Rattle.std.specs.Prelude.{◌≡◌, ◌&&◌, [], IfOk, IsOk, None, O
 ghost use Rattle.stun_judging.specs.Named.{named_seen};
 ghost use Rattle.stun_judging.specs.Judged.{client_judged};
 ghost use Rattle.stun_judging.specs.Reading.{reading_of};
-ghost use Rattle.stun_judging.specs.Verdict.{verdict};
+ghost use Rattle.stun_judging.specs.Verdict.{verdict_offering};
 ghost use Rattle.stun_endpoint.specs.Answers.{is_fingerprinted};
 ghost use Rattle.stun_endpoint.specs.Buffered.{LeavesNothing, outcome_in};
 ghost use Rattle.stun_endpoint.specs.Buffered.{LeavesNothingKnown, identification_in};
 ghost use Rattle.stun_endpoint.specs.Identified.{identification_of};
-ghost use Rattle.stun_endpoint.specs.Judged.{realm_of_table, realm_of_user};
 ghost use Rattle.stun_endpoint.specs.Lookups.{identified_as, identified_by, waits_for};
 ghost use Rattle.stun_endpoint.specs.Nonces.{epoch_of, nonce_in};
 ghost use Rattle.stun_endpoint.specs.Outcomes.{outcome_of};
-ghost use Rattle.stun_endpoint.specs.Received.{received_by};
+ghost use Rattle.stun_endpoint.specs.Received.{received_by, received_for};
 ghost use Rattle.stun_endpoint.specs.Responding.{drop_reason, is_undropped_request};
 ghost use Rattle.stun_endpoint.specs.Settings.{registered_of};
-ghost use Rattle.stun_endpoint.specs.code.Judges.{realm_of};
+ghost use Rattle.stun_endpoint.specs.code.Judges.{realm_of, users_of};
 ghost use Rattle.stun_endpoint.specs.code.Found.{waiting_claim};
 ghost use Rattle.stun_endpoint.specs.code.Waiting.{IsWaiting};
 
@@ -46,7 +45,7 @@ impl<A: Memory> Server<A> {
     /// Judges a datagram as far as that is possible without its user, for a server whose users are
     /// in a database.
     ///
-    /// - `Done` has the outcome, which is what `receive_for` returns for any user.
+    /// - `Done` has the outcome, which is what `receive_for` returns for any user of this realm.
     /// - `Lookup` is a request that is signed, names a user, and carries a nonce that is accepted
     ///   for its source at this time. Look the user up, and pass the `Lookup` and the user to
     ///   `resume`.
@@ -136,11 +135,12 @@ impl<A: Memory> Server<A> {
     }
 
     /// Judges the request of a look-up with the user that you found, or with no user if there is
-    /// none. The result is what `receive_for` returns at the time at which the request arrived.
+    /// none. The result is what `receive_for` returns at the time at which the request arrived. If
+    /// the user is of a realm with another name, the request is dropped with `OtherRealm`.
     ///
     /// If the name of the user differs from the name in `user_id`, as after a look-up that ignores
-    /// case, the client gets a 401. You may resume at another server with the same secret, for
-    /// example after a change of settings.
+    /// case, the client gets a 401. You may resume at another server with the same realm and secret,
+    /// for example after a change of settings.
     ///
     /// Fails if an allocation fails. Over UDP nothing is lost then, because the client retransmits
     /// its request.
@@ -150,12 +150,11 @@ impl<A: Memory> Server<A> {
         user: Option<&'a LongTermServerUser<A>>,
     ) -> Result<Received<'a, A>, AllocError>
         ensures received { IfOk result (λ received. outcome_of received
-            ≡ received_by self.now (realm_of_user self.now (option_copied user.entry))
-            lookup.entry.from lookup.entry.arrived lookup.entry.message) }
+            ≡ received_for self.now (option_copied user.entry) lookup.entry.from lookup.entry.arrived lookup.entry.message) }
         ensures granted { A.grants → IsOk result }
     {
         let mut buffer = Vec::new(self.alloc);
-        self.judge_lookup(lookup, &self.choose_judges(user), &mut buffer)
+        self.judge_lookup(lookup, &Judges::from_user(user), &mut buffer)
     }
 
     /// Judges the request of a look-up like `resume`, with the user in this table whom the request
@@ -170,8 +169,8 @@ impl<A: Memory> Server<A> {
         users: &'a Users<A>,
     ) -> Result<Received<'a, A>, AllocError>
         ensures received { IfOk result (λ received. outcome_of received
-            ≡ received_by self.now (realm_of_table users.now) lookup.entry.from lookup.entry.arrived
-            lookup.entry.message) }
+            ≡ received_for self.now (Some users.now.registered) lookup.entry.from
+            lookup.entry.arrived lookup.entry.message) }
         ensures granted { A.grants → IsOk result }
     {
         let mut buffer = Vec::new(self.alloc);
@@ -193,13 +192,12 @@ impl<A: Memory> Server<A> {
     ) -> Result<ReceivedInto<'a, Request<'a, A>>, AllocError>
         // With the bytes in the buffer, the result is what `resume` returns.
         ensures received { IfOk result (λ received. outcome_in received buffer.new.items
-            ≡ received_by self.now (realm_of_user self.now (option_copied user.entry))
-            lookup.entry.from lookup.entry.arrived lookup.entry.message) }
+            ≡ received_for self.now (option_copied user.entry) lookup.entry.from lookup.entry.arrived lookup.entry.message) }
         ensures rest { IfOk result (λ received. LeavesNothing received buffer.new.items) }
         ensures err { OnErr result (buffer.new.items ≡ []) }
         ensures granted { A.grants → IsOk result }
     {
-        self.judge_lookup_into(lookup, &self.choose_judges(user), buffer)
+        self.judge_lookup_into(lookup, &Judges::from_user(user), buffer)
     }
 
     /// Returns the outcome of a request, or `Lookup` if the request waits for its user. A response
@@ -297,15 +295,14 @@ impl<A: Memory> Server<A> {
         nonce: &str,
     ) -> Result<Accepted<'a, A>, VerdictRefusal>
         ensures { client_judged result
-            ≡ verdict (registered_of self.now) self.now.feature nonce.now
-            (Some self.now.algorithms) (reading_of read.now) }
+            ≡ verdict_offering (registered_of self.now) self.now.feature nonce.now
+            self.now.algorithms (reading_of read.now) }
     {
-        self.realm.judge(read, nonce)
+        self.realm.judge_by_nobody(read, nonce)
     }
 
     /// Returns the outcome of the request of a look-up. A response takes over the memory of the
     /// buffer.
-    #[tactic(auto, using(crate::proofs::JudgementLemmas::resumed_received, crate::proofs::JudgementLemmas::resumed_dropped))]
     fn judge_lookup<'a>(
         &self,
         lookup: Lookup<'a>,
@@ -313,8 +310,28 @@ impl<A: Memory> Server<A> {
         buffer: &mut Vec<u8, A>,
     ) -> Result<Received<'a, A>, AllocError>
         ensures received { IfOk result (λ received. outcome_of received
-            ≡ received_by self.now (realm_of judges.now) lookup.entry.from lookup.entry.arrived
+            ≡ received_for self.now (users_of judges.now) lookup.entry.from lookup.entry.arrived
             lookup.entry.message) }
+        ensures granted { A.grants → IsOk result }
+    {
+        if self.has_other_realm(judges) {
+            return Ok(Received::Dropped(DropReason::OtherRealm));
+        }
+        self.judge_lookup_at_realm(lookup, judges, buffer)
+    }
+
+    /// Returns the outcome of the request of a look-up with users of the server's realm. A response
+    /// takes over the memory of the buffer.
+    #[tactic(auto, using(crate::proofs::JudgementLemmas::resumed_received, crate::proofs::JudgementLemmas::resumed_dropped))]
+    fn judge_lookup_at_realm<'a>(
+        &self,
+        lookup: Lookup<'a>,
+        judges: &Judges<'a, A>,
+        buffer: &mut Vec<u8, A>,
+    ) -> Result<Received<'a, A>, AllocError>
+        ensures received { IfOk result (λ received. outcome_of received
+            ≡ received_by self.now (realm_of self.now judges.now) lookup.entry.from
+            lookup.entry.arrived lookup.entry.message) }
         ensures granted { A.grants → IsOk result }
     {
         let from = lookup.source();
@@ -338,7 +355,7 @@ impl<A: Memory> Server<A> {
         buffer: &mut Vec<u8, A>,
     ) -> Result<ReceivedInto<'a, Request<'a, A>>, AllocError>
         ensures received { IfOk result (λ received. outcome_in received buffer.new.items
-            ≡ received_by self.now (realm_of judges.now) lookup.entry.from lookup.entry.arrived
+            ≡ received_for self.now (users_of judges.now) lookup.entry.from lookup.entry.arrived
             lookup.entry.message) }
         ensures rest { IfOk result (λ received. LeavesNothing received buffer.new.items) }
         ensures err { OnErr result (buffer.new.items ≡ []) }

@@ -38,19 +38,19 @@ impl<A: Memory> Server<A> {
     ) -> Result<Result<Accepted<'a, A>, VerdictRefusal>, AllocError>
         requires { nonce.now ≡ nonce_in self.now self.now.secret from epoch }
         ensures verdict { IfOk result (λ verdict. client_judged verdict
-            ≡ judged_in self.now (realm_of judges.now) from epoch (reading_of read.now)) }
+            ≡ judged_in self.now (realm_of self.now judges.now) from epoch (reading_of read.now)) }
         ensures key { IfOk result (λ verdict. IfOk verdict
-            (HasVerifyingKey (realm_of judges.now).users (reading_of read.now))) }
+            (HasVerifyingKey (realm_of self.now judges.now).users (reading_of read.now))) }
         ensures granted { A.grants → IsOk result }
     {
-        match judges.judge(read, nonce) {
+        match self.judge_under(judges, read, nonce) {
             Err(VerdictRefusal::StaleNonce) => {
                 let Some(earlier) = self.find_earlier_nonce(read, from, epoch)? else {
                     return Ok(Err(VerdictRefusal::StaleNonce));
                 };
                 // A request that is refused under its earlier nonce is answered with a 438, because
                 // its client needs the current nonce.
-                match judges.judge(read, &earlier) {
+                match self.judge_under(judges, read, &earlier) {
                     Ok(accepted) => Ok(Ok(accepted)),
                     Err(_) => Ok(Err(VerdictRefusal::StaleNonce)),
                 }

@@ -1,7 +1,7 @@
 //! Judges datagrams (RFC 8489, sections 6.3 and 9.2.4).
 
 ghost use Rattle.std.specs.Option.{option_copied};
-ghost use Rattle.std.specs.Prelude.{◌≡◌, ◌≤◌, [], IfOk, IsOk, OnErr, false};
+ghost use Rattle.std.specs.Prelude.{◌≡◌, ◌≤◌, [], IfOk, IsOk, OnErr, Some, false};
 ghost use Rattle.std.specs.Prelude.{if◌then◌else◌, length};
 ghost use Rattle.stun_judging.specs.Algorithms.{contains};
 ghost use Rattle.stun_judging.specs.Nonces.{asks_for_algorithms};
@@ -10,17 +10,18 @@ ghost use Rattle.stun_base.specs.MessageType.{class_in};
 ghost use Rattle.stun_base.specs.declared.keys.algorithm.IntegrityAlgorithm.TheVariants.{Sha256};
 ghost use Rattle.stun_endpoint.specs.Answers.{is_fingerprinted};
 ghost use Rattle.stun_endpoint.specs.Buffered.{LeavesNothing, outcome_in};
-ghost use Rattle.stun_endpoint.specs.Judged.{judged, realm_of_table, realm_of_user};
+ghost use Rattle.stun_endpoint.specs.Judged.{judged};
 ghost use Rattle.stun_endpoint.specs.Nonces.{epoch_of};
 ghost use Rattle.stun_endpoint.specs.Outcomes.{outcome_of};
 ghost use Rattle.stun_endpoint.specs.Received.{by_verdict, dropped, indicated};
 ghost use Rattle.stun_endpoint.specs.Received.{is_empty, outcome_of_accepted, received_by};
+ghost use Rattle.stun_endpoint.specs.Received.{received_for};
 ghost use Rattle.stun_endpoint.specs.Received.{responding_of, signature_for};
 ghost use Rattle.stun_endpoint.specs.Responding.{drop_reason, is_undropped_request, own_answer};
 ghost use Rattle.stun_endpoint.specs.Responding.{reply_by};
 ghost use Rattle.stun_endpoint.specs.code.Arriving.{IsByClass, dropped_in};
 ghost use Rattle.stun_endpoint.specs.code.Judgements.{by_judgement};
-ghost use Rattle.stun_endpoint.specs.code.Judges.{realm_of};
+ghost use Rattle.stun_endpoint.specs.code.Judges.{realm_of, users_of};
 ghost use Rattle.stun_extra.specs.Unknown.{unknown_types};
 ghost use Rattle.stun_types.specs.Limits.{TEXT_LIMIT};
 
@@ -51,6 +52,10 @@ impl<A: Memory> Server<A> {
     /// `a.b.c.d` and `::ffff:a.b.c.d`, count as the same address. `users` are the users at this
     /// time.
     ///
+    /// Of the table only the users count: the algorithms, the list that is offered and the use of
+    /// hashed names are those of this server. If the table is of a realm with another name, every
+    /// datagram is dropped with `OtherRealm`.
+    ///
     /// - Bytes that are not a message are dropped. So are messages whose FINGERPRINT is wrong, is
     ///   not the last attribute or does not have 4 bytes, and messages without FINGERPRINT if the
     ///   settings require one.
@@ -58,7 +63,7 @@ impl<A: Memory> Server<A> {
     ///   are returned to you.
     ///   - 401: it is not signed.
     ///   - 400: it has no REALM, NONCE or user name, or it has the current nonce, but not the
-    ///     algorithms that were offered with it.
+    ///     algorithms that were offered with it. A server that supports only HMAC-SHA1 offers none.
     ///   - 438: its nonce is not accepted, or it has an earlier nonce that is still accepted, but
     ///     wrong algorithms or credentials. The code is 401 instead if the security bits of the
     ///     nonce differ from those of the server's nonces, and the algorithms agree with the nonce.
@@ -78,7 +83,7 @@ impl<A: Memory> Server<A> {
         users: &'a Users<A>,
     ) -> Result<Received<'a, A>, AllocError>
         ensures received { IfOk result (λ received. outcome_of received
-            ≡ received_by self.now (realm_of_table users.now) from now bytes.now) }
+            ≡ received_for self.now (Some users.now.registered) from now bytes.now) }
         ensures no_memory { is_undropped_request self.now.requires_fingerprint bytes.now
             ≡ false → IsOk result }
         ensures granted { A.grants → IsOk result }
@@ -89,7 +94,8 @@ impl<A: Memory> Server<A> {
 
     /// Judges a datagram like `receive`, with the one user that you looked up, or with no user if
     /// there is none. If the request names this user, the result is what `receive` returns with a
-    /// table of all users.
+    /// table of all users. If the user is of a realm with another name, every datagram is dropped
+    /// with `OtherRealm`.
     ///
     /// Fails if an allocation fails, which can happen only for a request. Over UDP nothing is lost
     /// then, because the client retransmits its request.
@@ -101,14 +107,13 @@ impl<A: Memory> Server<A> {
         user: Option<&'a LongTermServerUser<A>>,
     ) -> Result<Received<'a, A>, AllocError>
         ensures received { IfOk result (λ received. outcome_of received
-            ≡ received_by self.now (realm_of_user self.now (option_copied user.entry)) from now
-            bytes.now) }
+            ≡ received_for self.now (option_copied user.entry) from now bytes.now) }
         ensures no_memory { is_undropped_request self.now.requires_fingerprint bytes.now
             ≡ false → IsOk result }
         ensures granted { A.grants → IsOk result }
     {
         let mut buffer = Vec::new(self.alloc);
-        self.judge_datagram(bytes, from, now, &self.choose_judges(user), &mut buffer)
+        self.judge_datagram(bytes, from, now, &Judges::from_user(user), &mut buffer)
     }
 
     /// Judges a datagram like `receive`, and writes the response into a buffer, replacing its
@@ -127,7 +132,7 @@ impl<A: Memory> Server<A> {
     ) -> Result<ReceivedInto<'a, Request<'a, A>>, AllocError>
         // With the bytes in the buffer, the result is what `receive` returns.
         ensures received { IfOk result (λ received. outcome_in received buffer.new.items
-            ≡ received_by self.now (realm_of_table users.now) from now bytes.now) }
+            ≡ received_for self.now (Some users.now.registered) from now bytes.now) }
         ensures rest { IfOk result (λ received. LeavesNothing received buffer.new.items) }
         ensures no_memory { is_undropped_request self.now.requires_fingerprint bytes.now
             ≡ false → IsOk result }
@@ -153,15 +158,14 @@ impl<A: Memory> Server<A> {
     ) -> Result<ReceivedInto<'a, Request<'a, A>>, AllocError>
         // With the bytes in the buffer, the result is what `receive_for` returns.
         ensures received { IfOk result (λ received. outcome_in received buffer.new.items
-            ≡ received_by self.now (realm_of_user self.now (option_copied user.entry)) from now
-            bytes.now) }
+            ≡ received_for self.now (option_copied user.entry) from now bytes.now) }
         ensures rest { IfOk result (λ received. LeavesNothing received buffer.new.items) }
         ensures no_memory { is_undropped_request self.now.requires_fingerprint bytes.now
             ≡ false → IsOk result }
         ensures granted { A.grants → IsOk result }
         ensures err { OnErr result (buffer.new.items ≡ []) }
     {
-        self.judge_datagram_into(bytes, from, now, &self.choose_judges(user), buffer)
+        self.judge_datagram_into(bytes, from, now, &Judges::from_user(user), buffer)
     }
 
     /// Returns the outcome of a datagram, and writes the bytes of a response into the buffer.
@@ -174,7 +178,7 @@ impl<A: Memory> Server<A> {
         buffer: &mut Vec<u8, A>,
     ) -> Result<ReceivedInto<'a, Request<'a, A>>, AllocError>
         ensures received { IfOk result (λ received. outcome_in received buffer.new.items
-            ≡ received_by self.now (realm_of judges.now) from now bytes.now) }
+            ≡ received_for self.now (users_of judges.now) from now bytes.now) }
         ensures rest { IfOk result (λ received. LeavesNothing received buffer.new.items) }
         ensures no_memory { is_undropped_request self.now.requires_fingerprint bytes.now
             ≡ false → IsOk result }
@@ -209,7 +213,29 @@ impl<A: Memory> Server<A> {
         buffer: &mut Vec<u8, A>,
     ) -> Result<Received<'a, A>, AllocError>
         ensures received { IfOk result (λ received. outcome_of received
-            ≡ received_by self.now (realm_of judges.now) from now bytes.now) }
+            ≡ received_for self.now (users_of judges.now) from now bytes.now) }
+        ensures no_memory { is_undropped_request self.now.requires_fingerprint bytes.now
+            ≡ false → IsOk result }
+        ensures granted { A.grants → IsOk result }
+    {
+        if self.has_other_realm(judges) {
+            return Ok(Received::Dropped(DropReason::OtherRealm));
+        }
+        self.judge_at_realm(bytes, from, now, judges, buffer)
+    }
+
+    /// Returns the outcome of a datagram with users of the server's realm. A response takes over
+    /// the memory of the buffer.
+    fn judge_at_realm<'a>(
+        &self,
+        bytes: &'a [u8],
+        from: SocketAddr,
+        now: UnixTime,
+        judges: &Judges<'a, A>,
+        buffer: &mut Vec<u8, A>,
+    ) -> Result<Received<'a, A>, AllocError>
+        ensures received { IfOk result (λ received. outcome_of received
+            ≡ received_by self.now (realm_of self.now judges.now) from now bytes.now) }
         ensures no_memory { is_undropped_request self.now.requires_fingerprint bytes.now
             ≡ false → IsOk result }
         ensures granted { A.grants → IsOk result }
@@ -251,8 +277,8 @@ impl<A: Memory> Server<A> {
         requires fingerprint { has_fingerprint ≡ is_fingerprinted read.now }
         requires request { class_in read.now ≡ MessageClass.Request }
         ensures received { IfOk result (λ received. outcome_of received
-            ≡ by_verdict self.now (realm_of judges.now) from now read.now
-            (judged self.now (realm_of judges.now) from now (reading_of read.now))) }
+            ≡ by_verdict self.now (realm_of self.now judges.now) from now read.now
+            (judged self.now (realm_of self.now judges.now) from now (reading_of read.now))) }
         ensures granted { A.grants → IsOk result }
     {
         let epoch = self.compute_epoch(now);

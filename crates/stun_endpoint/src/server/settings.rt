@@ -63,11 +63,11 @@ pub struct LongTerm<A: Allocator = Global> {
     /// A second secret, whose nonces are accepted too, but never sent. When you change the secret,
     /// set this to the old secret, and remove it two nonce lifetimes later.
     pub previous_secret: Option<[u8; 32]>,
-    /// The integrity algorithms that the server supports. Nonces and tables of users depend on this
-    /// setting (see `Server`).
+    /// The integrity algorithms that the server supports. Nonces depend on this setting (see
+    /// `Server`).
     pub algorithms: AlgorithmSet,
-    /// Whether clients may send a hash in place of a name (section 14.4). Nonces and tables of
-    /// users depend on this setting (see `Server`).
+    /// Whether clients may send a hash in place of a name (section 14.4). Nonces depend on this
+    /// setting (see `Server`).
     pub user_hashes: bool,
     /// The nonce lifetime in seconds, at least 30: how long the server sends the same nonce to an
     /// address. After it is sent, a nonce is accepted for one to two lifetimes.

@@ -6,9 +6,7 @@ use Rattle.std.specs.String.{string_bytes}
 use Rattle.std.specs.BTreeMap.{BTreeMap, get_by_text}
 use Rattle.stun_base.specs.declared.keys.algorithm.IntegrityAlgorithm.{IntegrityAlgorithm}
 use Rattle.stun_base.specs.declared.keys.algorithm.IntegrityAlgorithm.TheVariants.{Sha1, Sha256}
-use Rattle.stun_judging.specs.declared.algorithm_set.AlgorithmSet.{AlgorithmSet}
-use Rattle.stun_judging.specs.Algorithms.{contains}
-use Rattle.stun_judging.specs.Registered.{UserSecret, name_cmp, key_if}
+use Rattle.stun_judging.specs.Registered.{UserSecret, name_cmp, key_from}
 use Rattle.stun_judging.specs.declared.registry.User.{User}
 use Rattle.stun_judging.specs.code.UserSecret.{secret_seen}
 
@@ -21,17 +19,15 @@ abbrev pub key_in : {A : Type 0} → User A → IntegrityAlgorithm → Option (L
 key_in user Sha1 = user.kept.value.sha1
 key_in user Sha256 = user.kept.value.sha256
 
--- a user has the key that the secret gives for each of the algorithms, and no other
-abbrev pub HasKeys : {A : Type 0} → List ℕ → AlgorithmSet → List ℕ → User A → Type 0
-HasKeys realm algorithms name user =
-    (a : IntegrityAlgorithm)
-    → key_in user a ≡ key_if (contains a algorithms) a name realm (secret_of user)
+-- a user has the keys that the secret gives, for both algorithms
+abbrev pub HasKeys : {A : Type 0} → List ℕ → List ℕ → User A → Type 0
+HasKeys realm name user =
+    (a : IntegrityAlgorithm) → key_in user a ≡ key_from a name realm (secret_of user)
 
 -- each user has these keys
-abbrev pub AllHaveKeys : {A B : Type 0} → List ℕ → AlgorithmSet → BTreeMap (String A) (User B)
-    → Type 0
-AllHaveKeys realm algorithms users =
-    (name : List ℕ) → IfSome (get_by_text users name) (HasKeys realm algorithms name)
+abbrev pub AllHaveKeys : {A B : Type 0} → List ℕ → BTreeMap (String A) (User B) → Type 0
+AllHaveKeys realm users =
+    (name : List ℕ) → IfSome (get_by_text users name) (HasKeys realm name)
 
 -- the secret of each user, by name
 abbrev pub secrets_seen : {A B : Type 0} → List (String A × User B) → fin.FinMap name_cmp UserSecret

@@ -9,11 +9,12 @@
 //! ```
 
 ghost use Rattle.std.specs.Option.{option_map};
-ghost use Rattle.std.specs.Prelude.{◌≡◌, Some, IfOk};
+ghost use Rattle.std.specs.Prelude.{◌≡◌, IfOk};
 ghost use Rattle.stun_judging.specs.Judged.{HasVerifyingKey, JudgesAccepted, client_judged};
 ghost use Rattle.stun_judging.specs.Named.{named_in, named_seen};
 ghost use Rattle.stun_judging.specs.Reading.{reading_of};
-ghost use Rattle.stun_judging.specs.Verdict.{verdict};
+ghost use Rattle.stun_judging.specs.Registered.{at_realm, without_users};
+ghost use Rattle.stun_judging.specs.Verdict.{verdict, verdict_offering};
 
 use crate::accepted::Accepted;
 use crate::algorithm_set::AlgorithmSet;
@@ -22,9 +23,9 @@ use crate::named_user::NamedUser;
 use crate::read_message::ReadMessage;
 use crate::realm::Realm;
 use crate::refusal::VerdictRefusal;
-use crate::registry::Registry;
 use crate::user::LongTermServerUser;
-use crate::verdict::judge_message;
+use crate::users_at::UsersAt;
+use crate::verdict::{is_unoffered, judge_message};
 use stun_base::memory::Memory;
 
 impl<A: Memory> Realm<A> {
@@ -54,9 +55,10 @@ impl<A: Memory> Realm<A> {
     ///
     /// - `Unauthorized`: there is no well-formed integrity attribute.
     /// - `BadRequest`: REALM, NONCE or the user name is missing.
-    /// - `BadRequest`: the algorithms disagree with those that the realm supports. Answer 438 in
-    ///   place of 400 if the message does not have this nonce (`told_refusal`), because a client
-    ///   that repeats an old offer could not continue after a 400, which is unsigned.
+    /// - `BadRequest`: the algorithms disagree with those that the realm offers, which are all that
+    ///   it supports, or no list if HMAC-SHA1 is the only one. Answer 438 in place of 400 if the
+    ///   message does not have this nonce (`told_refusal`), because a client that repeats an old
+    ///   offer could not continue after a 400, which is unsigned.
     /// - `Unauthorized`: the message has a different nonce, whose security bits differ too.
     /// - `StaleNonce`: the message has a different nonce.
     /// - `Unauthorized`: the user is unknown or has no key for the algorithm, or the signature is
@@ -67,23 +69,44 @@ impl<A: Memory> Realm<A> {
         nonce: &str,
     ) -> Result<Accepted<'a, A>, VerdictRefusal>
         ensures verdict { client_judged result
-            ≡ verdict self.now.registered self.now.feature nonce.now
-            (Some self.now.registered.algorithms) (reading_of read.now) }
+            ≡ verdict_offering self.now.registered self.now.feature nonce.now
+            self.now.registered.algorithms (reading_of read.now) }
         ensures accepted { JudgesAccepted self.now.registered self.now.feature nonce.now
             self.now.registered.algorithms (reading_of read.now) result }
         ensures key { IfOk result (HasVerifyingKey self.now.registered (reading_of read.now)) }
     {
-        self.judge_offered(read, nonce, Some(self.algorithms()))
+        self.judge_by_offer(&UsersAt::own(&self.registry), read, nonce)
     }
 
-    /// Judges a message like `judge` does in a realm whose only user is `user`. The users of this
-    /// realm are ignored. The algorithms on offer are those that this realm supports, and the keys
-    /// are those that `user` has, so prepare the user again if `LongTermServerUser::belongs_to`
-    /// returns `false`.
+    /// Judges a message like `judge`, with the users of `table` in place of the users of this
+    /// realm. Of the table only the users count: the algorithms and the use of hashed names are
+    /// those of this realm. If the table is of a realm with another name, nobody is accepted,
+    /// because keys depend on the name of the realm.
+    ///
+    /// Fails like `judge`, and does not allocate.
+    pub fn judge_among<'a>(
+        &self,
+        read: &ReadMessage<'a, '_>,
+        nonce: &str,
+        table: &'a Realm<A>,
+    ) -> Result<Accepted<'a, A>, VerdictRefusal>
+        ensures verdict { client_judged result
+            ≡ verdict_offering (at_realm self.now.registered table.now.registered)
+            self.now.feature nonce.now self.now.registered.algorithms (reading_of read.now) }
+        ensures accepted { JudgesAccepted (at_realm self.now.registered table.now.registered)
+            self.now.feature nonce.now self.now.registered.algorithms (reading_of read.now)
+            result }
+        ensures key { IfOk result (HasVerifyingKey
+            (at_realm self.now.registered table.now.registered) (reading_of read.now)) }
+    {
+        self.judge_by_offer(&UsersAt::of(&self.registry, &table.registry), read, nonce)
+    }
+
+    /// Judges a message like `judge_among` does with a table whose only user is `user`.
     ///
     /// Pass the user whom `named_in` returned: the verdict is then the same as in a realm that has
     /// all users (law `the_named_user_is_enough_to_judge`). If your database has no such user, call
-    /// `judge` on a realm without users.
+    /// `judge_by_nobody`.
     ///
     /// Fails like `judge`, and does not allocate.
     pub fn judge_of<'a>(
@@ -93,13 +116,51 @@ impl<A: Memory> Realm<A> {
         user: &'a LongTermServerUser<A>,
     ) -> Result<Accepted<'a, A>, VerdictRefusal>
         ensures verdict { client_judged result
-            ≡ verdict user.now self.now.feature nonce.now
-            (Some self.now.registered.algorithms) (reading_of read.now) }
-        ensures accepted { JudgesAccepted user.now self.now.feature nonce.now
-            self.now.registered.algorithms (reading_of read.now) result }
-        ensures key { IfOk result (HasVerifyingKey user.now (reading_of read.now)) }
+            ≡ verdict_offering (at_realm self.now.registered user.now) self.now.feature nonce.now
+            self.now.registered.algorithms (reading_of read.now) }
+        ensures accepted { JudgesAccepted (at_realm self.now.registered user.now)
+            self.now.feature nonce.now self.now.registered.algorithms (reading_of read.now)
+            result }
+        ensures key { IfOk result
+            (HasVerifyingKey (at_realm self.now.registered user.now) (reading_of read.now)) }
     {
-        self.judge_by(&user.registry, read, nonce, Some(self.algorithms()))
+        self.judge_by_offer(&UsersAt::of(&self.registry, &user.registry), read, nonce)
+    }
+
+    /// Judges a message like `judge` does in a realm without users, so it accepts nobody.
+    ///
+    /// Fails like `judge`, and does not allocate.
+    pub fn judge_by_nobody<'a>(
+        &self,
+        read: &ReadMessage<'a, '_>,
+        nonce: &str,
+    ) -> Result<Accepted<'a, A>, VerdictRefusal>
+        ensures verdict { client_judged result
+            ≡ verdict_offering (without_users self.now.registered) self.now.feature nonce.now
+            self.now.registered.algorithms (reading_of read.now) }
+        ensures key { IfOk result
+            (HasVerifyingKey (without_users self.now.registered) (reading_of read.now)) }
+    {
+        self.judge_by_offer(&UsersAt::nobody(&self.registry), read, nonce)
+    }
+
+    /// Judges a message by these users of the realm, with the algorithms that the realm offers.
+    fn judge_by_offer<'a>(
+        &self,
+        users: &UsersAt<'a, '_, A>,
+        read: &ReadMessage<'a, '_>,
+        nonce: &str,
+    ) -> Result<Accepted<'a, A>, VerdictRefusal>
+        ensures verdict { client_judged result
+            ≡ verdict_offering users.now self.now.feature nonce.now
+            self.now.registered.algorithms (reading_of read.now) }
+        ensures key { IfOk result (HasVerifyingKey users.now (reading_of read.now)) }
+    {
+        let reading = &read.reading;
+        if reading.has_integrity && is_unoffered(self.algorithms(), reading) {
+            return Err(VerdictRefusal::BadRequest);
+        }
+        self.judge_by(users, read, nonce, Some(self.algorithms()))
     }
 
     /// Judges a message like `judge`, with `offered` as the algorithms that its sender was offered,
@@ -119,13 +180,13 @@ impl<A: Memory> Realm<A> {
             nonce.now offered (reading_of read.now) }
         ensures key { IfOk result (HasVerifyingKey self.now.registered (reading_of read.now)) }
     {
-        self.judge_by(&self.registry, read, nonce, offered)
+        self.judge_by(&UsersAt::own(&self.registry), read, nonce, offered)
     }
 
     /// Judges a message like `judge_offered`, with `users` in place of the users of this realm.
     fn judge_by<'a>(
         &self,
-        users: &'a Registry<A>,
+        users: &UsersAt<'a, '_, A>,
         read: &ReadMessage<'a, '_>,
         nonce: &str,
         offered: Option<AlgorithmSet>,

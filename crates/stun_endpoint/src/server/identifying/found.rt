@@ -7,10 +7,10 @@ ghost use Rattle.stun_judging.specs.Named.{just};
 ghost use Rattle.stun_judging.specs.Reading.{reading_of};
 ghost use Rattle.stun_base.specs.MessageType.{class_in};
 ghost use Rattle.stun_endpoint.specs.Answers.{is_fingerprinted};
-ghost use Rattle.stun_endpoint.specs.Judged.{judged, realm_of_user};
+ghost use Rattle.stun_endpoint.specs.Judged.{judged};
 ghost use Rattle.stun_endpoint.specs.Nonces.{nonce_in};
 ghost use Rattle.stun_endpoint.specs.Outcomes.{outcome_of};
-ghost use Rattle.stun_endpoint.specs.Received.{by_verdict, received_by};
+ghost use Rattle.stun_endpoint.specs.Received.{by_verdict, received_by, received_for};
 ghost use Rattle.stun_endpoint.specs.Responding.{is_undropped_request};
 ghost use Rattle.stun_endpoint.specs.Settings.{registered_of};
 ghost use Rattle.stun_endpoint.specs.code.Found.{IsFoundKey, realm_of_found};
@@ -47,8 +47,25 @@ impl<A: Memory> Server<A> {
         user: &FoundUser<'a>,
     ) -> Result<Received<'a, A>, AllocError>
         ensures received { IfOk result (λ received. outcome_of received
-            ≡ received_by self.now (realm_of_user self.now
-            (Some (just (registered_of self.now) (Some user.now)))) from now bytes.now) }
+            ≡ received_for self.now (Some (just (registered_of self.now) (Some user.now))) from now
+            bytes.now) }
+        ensures no_memory { is_undropped_request self.now.requires_fingerprint bytes.now
+            ≡ false → IsOk result }
+        ensures granted { A.grants → IsOk result }
+    {
+        self.judge_found_datagram(bytes, from, now, user)
+    }
+
+    /// Returns the outcome of a datagram.
+    fn judge_found_datagram<'a>(
+        &'a self,
+        bytes: &'a [u8],
+        from: SocketAddr,
+        now: UnixTime,
+        user: &FoundUser<'a>,
+    ) -> Result<Received<'a, A>, AllocError>
+        ensures received { IfOk result (λ received. outcome_of received
+            ≡ received_by self.now (realm_of_found self.now user.now) from now bytes.now) }
         ensures no_memory { is_undropped_request self.now.requires_fingerprint bytes.now
             ≡ false → IsOk result }
         ensures granted { A.grants → IsOk result }
@@ -107,7 +124,7 @@ impl<A: Memory> Server<A> {
 
     /// Returns the agreed algorithm and the user's key if a request is accepted from this user, and
     /// `None` otherwise.
-    #[tactic(auto, using(crate::proofs::FoundLemmas::found_unclaimed, crate::proofs::FoundLemmas::found_refused, crate::proofs::FoundLemmas::found_accepted))]
+    #[tactic(auto, using(crate::proofs::FoundLemmas::found_unclaimed, crate::proofs::FoundLemmas::found_either))]
     fn find_accepted_key(
         &self,
         read: &ReadMessage<'_, '_>,
@@ -124,14 +141,11 @@ impl<A: Memory> Server<A> {
         let Some(claim) = self.find_waiting_claim(read, from, epoch, nonce)? else {
             return Ok(None);
         };
-        match self.verify_claim(&claim, user) {
-            Some((_, key)) => Ok(Some((claim.algorithm(), key))),
-            None => Ok(None),
-        }
+        Ok(self.verify_claim(&claim, user))
     }
 
-    /// Returns the algorithm of the signature and the user's key, if a claim names this user and
-    /// its signature is valid under the key, and `None` otherwise.
+    /// Returns the agreed algorithm and the user's key for it, if a claim names this user and its
+    /// signature is valid under the key, and `None` otherwise.
     fn verify_claim(
         &self,
         claim: &UserClaim<'_, '_, '_>,

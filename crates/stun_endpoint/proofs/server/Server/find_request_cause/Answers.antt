@@ -12,7 +12,7 @@ use Rattle.stun_endpoint.proofs.server.Server.find_request_cause.Goals as goal
 pub returns-in-Ok-clause-cause : goal.returns-in-Ok-clause-cause
 returns-in-Ok-clause-cause g c =
     let s = c.args.self.now in
-    let realm = realm_of c.args.judges.now in
+    let realm = realm_of s c.args.judges.now in
     let r = reading_of c.args.read.now in
     let client = c.in-Ok.field-0.client in
     let is : judged s realm c.args.from c.args.now r ≡ Ok client =
@@ -24,7 +24,7 @@ returns-in-Ok-clause-cause g c =
 pub returns-clause-cause : goal.returns-clause-cause
 returns-clause-cause g c =
     let s = c.args.self.now in
-    let realm = realm_of c.args.judges.now in
+    let realm = realm_of s c.args.judges.now in
     let r = reading_of c.args.read.now in
     let why = c.in-Err.refusal in
     let nonce = c.deref-in-Err.result.now in

@@ -3,7 +3,7 @@ use Rattle.std.proofs.Common.{rules, arith, ◌≡◌, None, Some, subst, sym, �
 use Rattle.std.specs.Prelude.{IfOk}
 use Rattle.stun_judging.specs.Judged.{client_judged}
 use Rattle.stun_judging.specs.Reading.{reading_of}
-use Rattle.stun_judging.specs.Verdict.{verdict}
+use Rattle.stun_judging.specs.Verdict.{verdict_offering}
 use Rattle.stun_endpoint.specs.Nonces.{epoch_of, nonce_in}
 use Rattle.stun_endpoint.specs.Outcomes.{outcome_of}
 use Rattle.stun_endpoint.specs.Received.{outcome_of_accepted}
@@ -51,9 +51,10 @@ returns-clause-received g c =
     first_of (search rules, grind arith) in
     let made : two ≡ nonce_in s s.secret c.args.from (epoch_of s c.args.now) =
     first_of (search rules, grind arith) in
-    let judges : client_judged v ≡ verdict (registered_of s) s.feature two (Some s.algorithms) r =
+    let judges : client_judged v
+    ≡ verdict_offering (registered_of s) s.feature two s.algorithms r =
     c.judge_by_nobody-verdict.ensures
-    ∙ ap (λ n. verdict (registered_of s) s.feature n (Some s.algorithms) r) (first ∙ sym made) in
+    ∙ ap (λ n. verdict_offering (registered_of s) s.feature n s.algorithms r) (first ∙ sym made) in
     let same = refused_comes s user c.args.from c.args.now bytes two v found made judges in
     rw (sym same) c.apply_verdict.ensures.received
 

@@ -13,7 +13,7 @@ use Rattle.stun_endpoint.proofs.server.Server.judge_in.Goals as goal
 pub returns-in-Ok-clause-verdict : goal.returns-in-Ok-clause-verdict
 returns-in-Ok-clause-verdict g c =
     let s = c.args.self.now in
-    let realm = realm_of c.args.judges.now in
+    let realm = realm_of s c.args.judges.now in
     let r = reading_of c.args.read.now in
     let earlier = string_bytes c.in-Some.earlier in
     let has : their_nonce_among r (earlier_nonces s c.args.from c.args.epoch) ≡ Some earlier =
@@ -24,7 +24,7 @@ returns-in-Ok-clause-verdict g c =
 pub returns-in-Err-StaleNonce-clause-verdict : goal.returns-in-Err-StaleNonce-clause-verdict
 returns-in-Err-StaleNonce-clause-verdict g c =
     let s = c.args.self.now in
-    let realm = realm_of c.args.judges.now in
+    let realm = realm_of s c.args.judges.now in
     let r = reading_of c.args.read.now in
     let earlier = string_bytes c.in-Some.earlier in
     let stale : verdict_under realm (nonce_in s s.secret c.args.from c.args.epoch) r

@@ -12,7 +12,7 @@ use Rattle.stun_endpoint.proofs.server.Server.judge_request.Goals as goal
 pub returns-clause-received : goal.returns-clause-received
 returns-clause-received g c =
     let s = c.args.self.now in
-    let realm = realm_of c.args.judges.now in
+    let realm = realm_of s c.args.judges.now in
     let bytes = c.args.read.now in
     let nonce = c.deref-2.result.now in
     let v = c.in_ok-verdict.verdict in

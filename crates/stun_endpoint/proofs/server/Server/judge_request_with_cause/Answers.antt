@@ -15,7 +15,7 @@ use Rattle.stun_endpoint.proofs.server.Server.judge_request_with_cause.Goals as 
 pub returns-in-Ok : goal.returns-in-Ok
 returns-in-Ok g c =
     let s = c.args.self.now in
-    let realm = realm_of c.args.judges.now in
+    let realm = realm_of s c.args.judges.now in
     let bytes = c.args.read.now in
     let r = reading_of bytes in
     let nonce = c.deref.result.now in
@@ -38,7 +38,7 @@ returns-in-Ok g c =
 pub returns : goal.returns
 returns g c =
     let s = c.args.self.now in
-    let realm = realm_of c.args.judges.now in
+    let realm = realm_of s c.args.judges.now in
     let bytes = c.args.read.now in
     let r = reading_of bytes in
     let why = c.in-Err.refusal in

@@ -1,13 +1,13 @@
--- It is received by the realm of the one user.
-use Rattle.std.proofs.Common.{◌≡◌, subst}
+-- It is received with the one user.
+use Rattle.std.proofs.Common.{◌≡◌, Option, subst}
 use Rattle.std.specs.Prelude.{IfOk}
-use Rattle.stun_endpoint.specs.Judged.{Realm}
+use Rattle.stun_judging.specs.Registered.{Registered}
 use Rattle.stun_endpoint.specs.Outcomes.{outcome_of}
-use Rattle.stun_endpoint.specs.Received.{received_by}
+use Rattle.stun_endpoint.specs.Received.{received_for}
 use Rattle.stun_endpoint.proofs.server.Server.receive_for.Goals as goal
 
 pub returns-clause-received : goal.returns-clause-received
 returns-clause-received g c =
-    subst (λ (realm : Realm). IfOk c.judge_datagram.result (λ received. outcome_of received
-    ≡ received_by c.args.self.now realm c.args.from c.args.now c.args.bytes.now))
-    c.choose_judges.ensures c.judge_datagram.ensures.received
+    subst (λ (users : Option Registered). IfOk c.judge_datagram.result (λ received. outcome_of received
+    ≡ received_for c.args.self.now users c.args.from c.args.now c.args.bytes.now))
+    c.from_user.ensures c.judge_datagram.ensures.received

@@ -1,8 +1,7 @@
 -- One more result is appended, and the results before it are told of the same bytes.
-use Rattle.std.proofs.Common.{◌≡◌, ◌∙◌, ◌+◌, ◌++◌, ◌∷◌, [], ap, arith, length, subst, sym}
+use Rattle.std.proofs.Common.{◌≡◌, ◌∙◌, ◌+◌, ◌++◌, ◌∷◌, [], ap, arith, length, subst, sym, Some}
 use Rattle.std.proofs.lemmas.Grind.{length_at_push}
 use Rattle.stun_endpoint.specs.Batches.{FollowOneAnother}
-use Rattle.stun_endpoint.specs.Judged.{realm_of_table}
 use Rattle.stun_endpoint.proofs.BatchLemmas.{batch_more, follow_more}
 use Rattle.stun_endpoint.proofs.server.Server.receive_many.Goals as goal
 
@@ -12,7 +11,7 @@ loop-datagram-preserved g c =
     let one = c.in_ok-received.received in
     let items = c.push_reserved.ensures.items ∙ ap (λ r. r ++ one ∷ []) c.reserve.ensures.items in
     record {
-      received = batch_more c.args.self.now (realm_of_table c.args.users.now) c.args.now
+      received = batch_more c.args.self.now (Some c.args.users.now.registered) c.args.now
           c.args.datagrams.now c.loop-datagram.datagram-index c.datagram-item.result
           c.loop-datagram.answers c.receive_onto.new.answers results c.push_reserved.new.self.items
           one (omega arith) c.datagram-item.is c.loop-datagram.invariant.ranges

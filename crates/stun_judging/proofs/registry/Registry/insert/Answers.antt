@@ -20,14 +20,14 @@ invariant_of-self-in-Ok g c =
     let r = c.self.inside in
     let realm = string_bytes r.realm in
     let name = string_bytes c.args.name in
-    let keys : HasKeys realm r.supported name c.in_ok-user.user =
-    subst (λ n. HasKeys realm r.supported n c.in_ok-user.user) c.as_str.ensures.value
-    (subst (λ n. HasKeys n r.supported c.as_str.result.now c.in_ok-user.user)
+    let keys : HasKeys realm name c.in_ok-user.user =
+    subst (λ n. HasKeys realm n c.in_ok-user.user) c.as_str.ensures.value
+    (subst (λ n. HasKeys n c.as_str.result.now c.in_ok-user.user)
     c.as_str-realm.ensures.value c.in_ok-user.ensures.keys) in
     let hash : c.userhash-hash.result ≡ userhash_of name realm = c.userhash-hash.ensures
     ∙ (λ i. userhash_of (c.as_str-2.ensures.value i) (c.as_str-3.ensures.value i)) in
     let copied : string_bytes c.in_ok-text.field-0 ≡ name = search rules in (
-      keys_after_add realm r.supported r.users c.put_user.new.users name c.in_ok-user.user
+      keys_after_add realm r.users c.put_user.new.users name c.in_ok-user.user
           c.in-Ok.ensures.ok keys c.self.invariant.0,
       index_after_add realm name (secrets_seen r.users.entries) r.hashed c.self.invariant.1
           c.userhash-hash.result (string_bytes c.in_ok-text.field-0) hash copied
@@ -58,7 +58,7 @@ invariant_of-self-in-Err g c =
       c.userhash-hash.result,
       string_bytes n,
     )) c.in-Err.ensures.refused) in (
-      keys_where_same realm r.supported c.put_user.new.users r.users.entries c.in-Err.ensures.same
+      keys_where_same realm c.put_user.new.users r.users.entries c.in-Err.ensures.same
           c.self.invariant.0,
       subst (λ (es : List (String g.row.A.Denot × User g.row.A.Denot)).
           IsNameIndexOf realm (secrets_seen es) c.remove.new.self) (sym c.in-Err.ensures.same)

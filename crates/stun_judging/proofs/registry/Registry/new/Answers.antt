@@ -12,7 +12,7 @@ use Rattle.stun_judging.proofs.registry.Registry.new.Goals as goal
 pub invariant_of-result : goal.invariant_of-result
 invariant_of-result g c =
     let realm = string_bytes c.args.realm in (
-      keys_where_same realm c.args.supported c.new.result [] c.new.ensures.empty (λ name. tt),
+      keys_where_same realm c.new.result [] c.new.ensures.empty (λ name. tt),
       subst (λ (secrets : Secrets). IsNameIndexOf realm secrets c.new-2.result)
           (sym (ap (λ (es : List (String g.row.A.Denot × User g.row.A.Denot)). secrets_seen es)
           c.new.ensures.empty))

@@ -18,7 +18,7 @@ invariant_of-self g c =
     let hash : c.userhash-hash.result ≡ userhash_of name realm =
     c.userhash-hash.ensures
     ∙ (λ i. userhash_of ((c.as_str.ensures.value ∙ kept) i) (c.as_str-in-Some.ensures.value i)) in (
-      keys_after_remove realm r.supported r.users c.take_user.new.users name
+      keys_after_remove realm r.users c.take_user.new.users name
           c.take_user.ensures.updates c.self.invariant.0,
       index_after_remove realm name (secrets_seen r.users.entries) r.hashed c.self.invariant.1
           c.userhash-hash.result (string_bytes c.in-Some.name) hash kept

@@ -63,8 +63,8 @@ pub record IsClientOf (side : ClientSide) (c : Client) : Type 0 where
   pub required_is : c.requires_fingerprint ≡ side.requires_fingerprint
 
 -- a client and a server can meet: the server was built, the user is registered in a table of its
--- realm, the name is a text of at most 513 bytes, both agree on an algorithm, and the client sends the FINGERPRINT that
--- one of them requires
+-- realm, the name is a text of at most 513 bytes, both agree on an algorithm, and the client sends
+-- the FINGERPRINT that one of them requires
 pub record CanMeet (s : Settings) (users : Registered) (side : ClientSide)
     (a : IntegrityAlgorithm) : Type 0 where
   pub built : IsServer s

@@ -11,11 +11,13 @@ use Rattle.stun_endpoint.specs.Nonces.{epoch_of}
 use Rattle.stun_endpoint.specs.Responding.{is_undropped_request}
 use Rattle.stun_endpoint.specs.Settings.{Settings}
 use Rattle.stun_endpoint.proofs.AcceptedLemmas.{accepted_at}
-use Rattle.stun_datagrams.specs.Events.{ServerEvent, Arrived, Secrets, Verdict, realm_with}
+use Rattle.stun_datagrams.specs.Events.{ServerEvent, Arrived, UserSecrets, RequestVerdict}
+use Rattle.stun_datagrams.specs.Events.{realm_with}
 use Rattle.stun_datagrams.specs.Events.{users_after, users_after_event, verdict_of_event, verdicts}
 use Rattle.stun_datagrams.specs.Sentence.{AcceptsFromClients, IsAcceptedFrom}
 
-verdict_at : (s : Settings) (users : Secrets) (events : List ServerEvent) (i : ℕ) (e : ServerEvent)
+verdict_at : (s : Settings) (users : UserSecrets) (events : List ServerEvent) (i : ℕ)
+    (e : ServerEvent)
     → slice_get events i ≡ Some e
     → slice_get (verdicts s users events) i
     ≡ Some (verdict_of_event s (users_after users (take i events)) e)
@@ -26,14 +28,14 @@ verdict_at s users (first ∷ later) (suc i) e h =
     verdict_at s (users_after_event users first) later i e h
 
 -- a verdict is there only if the datagram is judged
-is_judged : (b : Bool) (v w : Verdict) → Some (cond b (Some v) None) ≡ Some (Some w)
+is_judged : (b : Bool) (v w : RequestVerdict) → Some (cond b (Some v) None) ≡ Some (Some w)
     → (b ≡ true) × (v ≡ w)
 is_judged true v w h = (refl, cc)
 is_judged false v w h = cc
 
-module _ (s : Settings) (users : Secrets) (from : SocketAddr) (now : ℕ) (message : Vec ℕ)
+module _ (s : Settings) (users : UserSecrets) (from : SocketAddr) (now : ℕ) (message : Vec ℕ)
     (client : ClientSeen) where
-  abbrev v : Verdict
+  abbrev v : RequestVerdict
   v = judged s (realm_with s users) from now (reading_of message.items)
 
   forth : Some (verdict_of_event s users (Arrived from now message)) ≡ Some (Some (Ok client))
@@ -54,7 +56,7 @@ module _ (s : Settings) (users : Secrets) (from : SocketAddr) (now : ℕ) (messa
       ((accepted_at s (realm_with s users) from (reading_of message.items) client
       (epoch_of s now)).1 one)
 
-pub accepts_from_clients : (s : Settings) (start : Secrets) (events : List ServerEvent)
+pub accepts_from_clients : (s : Settings) (start : UserSecrets) (events : List ServerEvent)
     → AcceptsFromClients s start events (verdicts s start events)
 accepts_from_clients s start events i from now message client is =
     let users = users_after start (take i events) in

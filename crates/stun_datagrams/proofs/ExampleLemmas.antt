@@ -44,9 +44,9 @@ use Rattle.stun_endpoint.specs.Responding.{drop_reason, fault_of, is_undropped_r
 use Rattle.stun_endpoint.specs.Responding.{no_message}
 use Rattle.stun_endpoint.specs.Lookups.{users_with}
 use Rattle.stun_endpoint.specs.Settings.{Settings}
-use Rattle.stun_datagrams.specs.Events.{Secrets, realm_with}
+use Rattle.stun_datagrams.specs.Events.{UserSecrets, realm_with}
 use Rattle.stun_datagrams.specs.Example.{IsUserOf, SignedRequestsAreAccepted, added_by_user}
-use Rattle.stun_datagrams.specs.Example.{binding_request, strongest_in}
+use Rattle.stun_datagrams.specs.Example.{plain_binding_request, strongest_in}
 use Rattle.stun_endpoint.proofs.OfferLemmas.{nonce_asks}
 use Rattle.stun_datagrams.proofs.OutcomeLemmas.{undropped_is}
 use Rattle.stun_datagrams.proofs.EventLemmas.{class_read}
@@ -126,19 +126,19 @@ no_fingerprint Both nonce realm user message = refl
 
 -- ---- the request
 
-request_shows : visible binding_request ≡ []
-unfolding binding_request visible walk_up_to
+request_shows : visible plain_binding_request ≡ []
+unfolding plain_binding_request visible walk_up_to
 request_shows = refl
 
-request_class : class_in binding_request ≡ Class.Request
-unfolding binding_request
+request_class : class_in plain_binding_request ≡ Class.Request
+unfolding plain_binding_request
 request_class = refl
 
-request_built : BareAreBuilt → IsBuilt binding_request Class.Request None
-unfolding binding_request
+request_built : BareAreBuilt → IsBuilt plain_binding_request Class.Request None
+unfolding plain_binding_request
 request_built law = law (type_number Class.Request 1) 7 (omega arith)
 
-module _ (laws : SigningLaws) (s : Settings) (users : Secrets) (user : NameAndPassword)
+module _ (laws : SigningLaws) (s : Settings) (users : UserSecrets) (user : NameAndPassword)
     (from : SocketAddr) (now : ℕ) (known : IsUserOf s users user)
     (plain : s.requires_fingerprint ≡ false) where
   abbrev words : List ℕ
@@ -150,7 +150,7 @@ module _ (laws : SigningLaws) (s : Settings) (users : Secrets) (user : NameAndPa
   abbrev a : Added
   a = added_by_user s.algorithms nonce s.realm user
 
-  abbrev built : IsBuilt binding_request Class.Request None
+  abbrev built : IsBuilt plain_binding_request Class.Request None
   built = request_built laws.built
 
   within : IsWithinLimits a
@@ -171,11 +171,11 @@ module _ (laws : SigningLaws) (s : Settings) (users : Secrets) (user : NameAndPa
     userhash = tt;
   }
 
-  signed : (page : Page) × (added_all (additions_of a) (page_of binding_request) ≡ Ok page)
+  signed : (page : Page) × (added_all (additions_of a) (page_of plain_binding_request) ≡ Ok page)
   signed =
-      let room = (page_of binding_request).room in
-      laws.signs a binding_request room built.unsigned within
-      (laws.room a binding_request room Class.Request None built
+      let room = (page_of plain_binding_request).room in
+      laws.signs a plain_binding_request room built.unsigned within
+      (laws.room a plain_binding_request room Class.Request None built
       (small s.algorithms nonce s.realm user within) (omega (arith, built.short)))
 
   abbrev page : Page
@@ -187,12 +187,14 @@ module _ (laws : SigningLaws) (s : Settings) (users : Secrets) (user : NameAndPa
   abbrev client : ClientSeen
   client = record { name = user.username; algorithm = strongest_in s.algorithms }
 
-  reads : ReadsAs (class_in binding_request) (error_code binding_request) a r
-  reads = laws.read a binding_request (page_of binding_request).room page built.unsigned texts signed.1
+  reads : ReadsAs (class_in plain_binding_request) (error_code plain_binding_request) a r
+  reads =
+      laws.read a plain_binding_request (page_of plain_binding_request).room page built.unsigned
+      texts signed.1
 
-  has_added : HasAdded binding_request (additions_of a) page.bytes
+  has_added : HasAdded plain_binding_request (additions_of a) page.bytes
   has_added =
-      laws.added (additions_of a) binding_request (page_of binding_request).room page
+      laws.added (additions_of a) plain_binding_request (page_of plain_binding_request).room page
       built.unsigned.is_open (typed-additions a) signed.1
 
   named : named_user (users_with s users) s.feature r
@@ -258,10 +260,10 @@ module _ (laws : SigningLaws) (s : Settings) (users : Secrets) (user : NameAndPa
       ∙ ap (λ (members : List Member). fault_of s.requires_fingerprint (fingerprint_if page.bytes
       (first_of FINGERPRINT members)))
       (has_added.visible_is
-      ∙ ap (λ (shown : List Member). shown ++ added_members binding_request (additions_of a))
+      ∙ ap (λ (shown : List Member). shown ++ added_members plain_binding_request (additions_of a))
       request_shows)
       ∙ ap (λ (m : Option Member). fault_of s.requires_fingerprint (fingerprint_if page.bytes m))
-      (no_fingerprint s.algorithms nonce s.realm user binding_request)
+      (no_fingerprint s.algorithms nonce s.realm user plain_binding_request)
       ∙ ap (λ required. fault_of required Absent) plain
 
   kept : is_undropped_request s.requires_fingerprint page.bytes ≡ true

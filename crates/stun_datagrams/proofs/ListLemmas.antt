@@ -1,5 +1,6 @@
 -- What a datagram of a list comes to, in its place.
-use Rattle.std.proofs.Common.{◌≡◌, ◌≢◌, ℕ, List, [], ◌∷◌, ◌++◌, length, map, Some, refl, sym, ◌∙◌, ap}
+use Rattle.std.proofs.Common.{◌≡◌, ◌≢◌, ℕ, List, [], ◌∷◌, ◌++◌, length, map, Some, refl, sym}
+use Rattle.std.proofs.Common.{◌∙◌, ap}
 use Rattle.std.specs.Prelude.{slice_get, IfOk}
 use Rattle.std.specs.Global.{Vec}
 use Rattle.std.specs.declared.net.socket_addr.SocketAddr.{SocketAddr}
@@ -12,7 +13,7 @@ use Rattle.stun_endpoint.specs.Settings.{Settings}
 use Rattle.stun_endpoint.specs.declared.received.DropReason.TheVariants.{OtherRealm}
 use Rattle.stun_endpoint.proofs.RealmLemmas.{dropped_for_other, own_realm, realm_of_own}
 use Rattle.stun_endpoint.proofs.RealmLemmas.{received_of_own}
-use Rattle.stun_datagrams.specs.Events.{ServerEvent, Arrived, Secrets, outcomes, realm_with}
+use Rattle.stun_datagrams.specs.Events.{ServerEvent, Arrived, UserSecrets, outcomes, realm_with}
 use Rattle.stun_datagrams.specs.Events.{users_after}
 use Rattle.stun_datagrams.proofs.OutcomeLemmas.{outcome_after}
 
@@ -32,7 +33,7 @@ module _ (s : Settings) (users : Registered) (from : SocketAddr) (now : ℕ) (by
   pub is_outcome : {V E : Type 0} (seen : V → Outcome) (result : Result V E)
       → IfOk result (λ given. seen given ≡ received_for s (Some users) from now bytes)
       → IfOk result (λ given. users.realm ≡ s.realm
-      → (start : Secrets) (before after : List ServerEvent) (message : Vec ℕ)
+      → (start : UserSecrets) (before after : List ServerEvent) (message : Vec ℕ)
       → message.items ≡ bytes → users.secrets ≡ users_after start before
       → slice_get (outcomes s start (before ++ Arrived from now message ∷ after)) (length before)
       ≡ Some (Some (seen given)))
@@ -40,7 +41,8 @@ module _ (s : Settings) (users : Registered) (from : SocketAddr) (now : ℕ) (by
       outcome_after s start before after (Arrived from now message)
       ∙ ap (λ bs. Some (Some (received_by s (realm_with s (users_after start before)) from now bs)))
       same
-      ∙ ap (λ secrets. Some (Some (received_by s (realm_with s secrets) from now bytes))) (sym there)
+      ∙ ap (λ secrets. Some (Some (received_by s (realm_with s secrets) from now bytes)))
+      (sym there)
       ∙ ap (λ (realm : Realm). Some (Some (received_by s realm from now bytes)))
       (sym (realm_of_own s users own))
       ∙ ap (λ o. Some (Some o))

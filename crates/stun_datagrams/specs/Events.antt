@@ -29,51 +29,51 @@ pub data ServerEvent : Type 0 where
 -- ---- users
 
 -- the users of a server: the password or the stored keys of each, by name
-abbrev pub Secrets : Type 0
-Secrets = fin.FinMap name_cmp UserSecret
+abbrev pub UserSecrets : Type 0
+UserSecrets = fin.FinMap name_cmp UserSecret
 
 -- the users after an event
-abbrev pub users_after_event : Secrets → ServerEvent → Secrets
+abbrev pub users_after_event : UserSecrets → ServerEvent → UserSecrets
 users_after_event users (UserAdded name password) =
     fin.insert users (string_bytes name) (of_password (string_bytes password))
 users_after_event users (UserRemoved name) = fin.remove users (string_bytes name)
 users_after_event users (Arrived from now message) = users
 
-abbrev pub users_after : Secrets → List ServerEvent → Secrets
+abbrev pub users_after : UserSecrets → List ServerEvent → UserSecrets
 users_after users [] = users
 users_after users (e ∷ later) = users_after (users_after_event users e) later
 
 -- what a server judges by if these are its users: all but the users is as its settings say
-abbrev pub realm_with : Settings → Secrets → Realm
+abbrev pub realm_with : Settings → UserSecrets → Realm
 realm_with s users =
     record { users = users_with s users; feature = s.feature; offered = s.algorithms }
 
 -- ---- the outcome of each event: none, if it is not a datagram
 
-abbrev pub outcome_of_event : Settings → Secrets → ServerEvent → Option Outcome
+abbrev pub outcome_of_event : Settings → UserSecrets → ServerEvent → Option Outcome
 outcome_of_event s users (UserAdded name password) = None
 outcome_of_event s users (UserRemoved name) = None
 outcome_of_event s users (Arrived from now message) =
     Some (received_by s (realm_with s users) from now message.items)
 
-abbrev pub outcomes : Settings → Secrets → List ServerEvent → List (Option Outcome)
+abbrev pub outcomes : Settings → UserSecrets → List ServerEvent → List (Option Outcome)
 outcomes s users [] = []
 outcomes s users (e ∷ later) =
     outcome_of_event s users e ∷ outcomes s (users_after_event users e) later
 
 -- the verdict on a datagram, if it is a request that is not dropped: the client that it is accepted
 -- from, or the reason for which it is refused
-abbrev pub Verdict : Type 0
-Verdict = Result ClientSeen VerdictRefusal
+abbrev pub RequestVerdict : Type 0
+RequestVerdict = Result ClientSeen VerdictRefusal
 
-abbrev pub verdict_of_event : Settings → Secrets → ServerEvent → Option Verdict
+abbrev pub verdict_of_event : Settings → UserSecrets → ServerEvent → Option RequestVerdict
 verdict_of_event s users (UserAdded name password) = None
 verdict_of_event s users (UserRemoved name) = None
 verdict_of_event s users (Arrived from now message) =
     if is_undropped_request s.requires_fingerprint message.items
     then Some (judged s (realm_with s users) from now (reading_of message.items)) else None
 
-abbrev pub verdicts : Settings → Secrets → List ServerEvent → List (Option Verdict)
+abbrev pub verdicts : Settings → UserSecrets → List ServerEvent → List (Option RequestVerdict)
 verdicts s users [] = []
 verdicts s users (e ∷ later) =
     verdict_of_event s users e ∷ verdicts s (users_after_event users e) later

@@ -13,14 +13,14 @@ use Rattle.stun_endpoint.specs.Judged.{IsAcceptedAt}
 use Rattle.stun_endpoint.specs.Received.{AcceptedRequest, Outcome, requested}
 use Rattle.stun_endpoint.specs.Responding.{is_binding, is_empty, is_undropped_request}
 use Rattle.stun_endpoint.specs.Settings.{Settings}
-use Rattle.stun_datagrams.specs.Events.{ServerEvent, Arrived, Secrets, Verdict, own_events}
-use Rattle.stun_datagrams.specs.Events.{outcomes, own_outcomes, realm_with, users_after}
+use Rattle.stun_datagrams.specs.Events.{ServerEvent, Arrived, UserSecrets, RequestVerdict}
+use Rattle.stun_datagrams.specs.Events.{outcomes, own_events, own_outcomes, realm_with, users_after}
 
 -- ---- what is accepted
 
 -- a datagram is a request that is not dropped, and is accepted from a client: under the nonce of
 -- the epoch or of the epoch before, under the secret or the previous secret (`IsAcceptedAt`)
-abbrev pub IsAcceptedFrom : Settings → Secrets → SocketAddr → ℕ → List ℕ → ClientSeen → Type 0
+abbrev pub IsAcceptedFrom : Settings → UserSecrets → SocketAddr → ℕ → List ℕ → ClientSeen → Type 0
 IsAcceptedFrom s users from now bytes client =
     (is_undropped_request s.requires_fingerprint bytes ≡ true)
     × IsAcceptedAt s (realm_with s users) from now (reading_of bytes) client
@@ -40,7 +40,8 @@ IsHandedOut given client =
 -- At each index of a list of events: a datagram is returned as an accepted request of a client if
 -- and only if it is accepted from that client, with the users at that time, and the response is up
 -- to the caller
-abbrev pub HandsOutAccepted : Settings → Secrets → List ServerEvent → List (Option Outcome) → Type 0
+abbrev pub HandsOutAccepted : Settings → UserSecrets → List ServerEvent → List (Option Outcome)
+    → Type 0
 HandsOutAccepted s start events given =
     (i : ℕ) (from : SocketAddr) (now : ℕ) (message : Vec ℕ) (client : ClientSeen)
     → slice_get events i ≡ Some (Arrived from now message)
@@ -50,7 +51,8 @@ HandsOutAccepted s start events given =
 
 -- at each index, the verdict accepts a client if and only if the datagram is accepted from that
 -- client, with the users at that time
-abbrev pub AcceptsFromClients : Settings → Secrets → List ServerEvent → List (Option Verdict)
+abbrev pub AcceptsFromClients : Settings → UserSecrets → List ServerEvent
+    → List (Option RequestVerdict)
     → Type 0
 AcceptsFromClients s start events given =
     (i : ℕ) (from : SocketAddr) (now : ℕ) (message : Vec ℕ) (client : ClientSeen)
@@ -60,14 +62,14 @@ AcceptsFromClients s start events given =
 
 -- whatever other sources send, the datagrams of a source have the outcomes that they have without
 -- the datagrams of other sources, with the same changes of the users
-abbrev pub AreIsolated : Settings → Secrets → List ServerEvent → List (Option Outcome) → Type 0
+abbrev pub AreIsolated : Settings → UserSecrets → List ServerEvent → List (Option Outcome) → Type 0
 AreIsolated s start events given =
     (from : SocketAddr) → own_outcomes from events given ≡ outcomes s start (own_events from events)
 
 -- whatever came before, an event has the same outcome with the same users
 abbrev pub AreJudgedAlone : Settings → Type 0
 AreJudgedAlone s =
-    (start other : Secrets) (before instead after then : List ServerEvent) (e : ServerEvent)
+    (start other : UserSecrets) (before instead after then : List ServerEvent) (e : ServerEvent)
     → users_after start before ≡ users_after other instead
     → slice_get (outcomes s start (before ++ e ∷ after)) (length before)
     ≡ slice_get (outcomes s other (instead ++ e ∷ then)) (length instead)

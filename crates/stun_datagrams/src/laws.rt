@@ -4,7 +4,7 @@
 //! functions makes the call that its law is about.
 ghost use Rattle.std.specs.Global.{Vec as TheVec};
 ghost use Rattle.std.specs.Prelude.{◌≡◌, ◌≢◌, ◌∷◌, ◌++◌, ℕ, List, IfOk, Some, length, slice_get};
-ghost use Rattle.stun_datagrams.specs.Events.{Arrived, ServerEvent, Secrets, outcomes};
+ghost use Rattle.stun_datagrams.specs.Events.{Arrived, ServerEvent, UserSecrets, outcomes};
 ghost use Rattle.stun_datagrams.specs.Events.{users_after, verdicts};
 ghost use Rattle.stun_datagrams.specs.Example.{SignedRequestsAreAccepted};
 ghost use Rattle.stun_datagrams.specs.Others.{OpenDatagram, ShortTermDatagram, open_outcomes};
@@ -37,9 +37,9 @@ use stun_judging::laws as judging_laws;
 ///   - The server leaves the response to its caller. It does so if it understands all
 ///     comprehension-required attributes, and does not itself answer the request as a Binding
 ///     request.
-/// - `accepted`: the verdict on a datagram accepts a client, who has a name and an algorithm, if and
-///   only if the datagram is a request that is not dropped and is accepted from this client. The
-///   server may then also write the response itself.
+/// - `accepted`: the verdict on a datagram accepts a client, who has a name and an algorithm, if
+///   and only if the datagram is a request that is not dropped and is accepted from this client.
+///   The server may then also write the response itself.
 /// - `isolated`: the outcomes of the datagrams from one source stay the same if the datagrams from
 ///   all other sources are removed from the list.
 /// - `alone`: the outcome of a datagram depends only on the datagram, its source, its time and the
@@ -54,11 +54,11 @@ use stun_judging::laws as judging_laws;
 ///   HMAC-SHA1 offers none, so the request then has neither a list of algorithms nor a choice.
 /// - Its signature is valid under the key of the registered user whom the request names.
 pub fn accepted_datagrams_are_handed_out()
-    ensures handed { (s : Settings) (start : Secrets) (events : List ServerEvent)
+    ensures handed { (s : Settings) (start : UserSecrets) (events : List ServerEvent)
         → HandsOutAccepted s start events (outcomes s start events) }
-    ensures accepted { (s : Settings) (start : Secrets) (events : List ServerEvent)
+    ensures accepted { (s : Settings) (start : UserSecrets) (events : List ServerEvent)
         → AcceptsFromClients s start events (verdicts s start events) }
-    ensures isolated { (s : Settings) (start : Secrets) (events : List ServerEvent)
+    ensures isolated { (s : Settings) (start : UserSecrets) (events : List ServerEvent)
         → AreIsolated s start events (outcomes s start events) }
     ensures alone { (s : Settings) → AreJudgedAlone s }
 {}
@@ -96,7 +96,7 @@ pub fn a_datagram_is_one_of_a_list<'a, A: Allocator + Copy>(
     users: &'a Users<A>,
 ) -> Result<Received<'a, A>, AllocError>
     ensures listed { IfOk result (λ received. users.now.registered.realm ≡ server.now.realm
-        → (start : Secrets) (before after : List ServerEvent) (message : TheVec ℕ)
+        → (start : UserSecrets) (before after : List ServerEvent) (message : TheVec ℕ)
         → message.items ≡ bytes.now
         → users.now.registered.secrets ≡ users_after start before
         → slice_get (outcomes server.now start (before ++ Arrived from now message ∷ after))

@@ -15,7 +15,8 @@ use Rattle.stun_judging.proofs.UserKeys.{same_name}
 use Rattle.stun_exchanges.specs.Instance.{SidesCanMeet, example_user}
 use Rattle.stun_exchanges.specs.Instance.{example_users}
 
-one_user : fin.get example_users.secrets example_user.username ≡ Some (of_password example_user.password)
+one_user : fin.get example_users.secrets example_user.username
+    ≡ Some (of_password example_user.password)
 one_user =
     fin.get-insert nat_list_cmp_total fin.empty example_user.username
     (of_password example_user.password) example_user.username

@@ -53,8 +53,8 @@ abbrev pub realm_knowing : Settings → Registered → Realm
 realm_knowing s users = realm_of_user s (Some users)
 
 -- a user is registered with this password in a table of the server's realm, which may be made for
--- any algorithms. The user is found by the hash of the name: no earlier user, in the order of names,
--- has the same hash
+-- any algorithms. The user is found by the hash of the name: no earlier user, in the order of
+-- names, has the same hash
 pub record IsRegisteredUser (s : Settings) (users : Registered)
     (who : NameAndPassword) : Type 0 where
   pub realm : users.realm ≡ s.realm

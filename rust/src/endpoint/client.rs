@@ -74,14 +74,14 @@ use core::net::SocketAddr;
 ///   signed for a forged challenge. So such an error without a signature does not end the request.
 ///   Instead, the client makes another message of the request the current one, at most three times:
 ///   of the messages that are neither in doubt nor signed for a weaker challenge, the one that was
-///   written last. So an unsigned 437, which
-///   anybody can send, can change the challenge for which the next requests are signed.
+///   written last. The next requests are then signed for its challenge, so an unsigned 437, which
+///   anybody can send, can change that challenge.
 /// - After the current message has been replaced six times
 ///   ([`challenges`](ClientBuilder::challenges)), the next challenge ends the request. The third
 ///   401 that has the same realm, but a new nonce, ends it too.
-/// - After the first plan, challenges and doubts are dropped. A challenge that arrives exactly at the
-///   end of the first plan is still answered. A request that is not polled within its first plan
-///   ends without being sent.
+/// - After the first plan of a request, the client answers no challenge to it, but a challenge that
+///   arrives exactly at the end of this plan is still answered. A request that is not polled within
+///   its first plan ends without being sent.
 ///
 /// So over UDP a single forged datagram ends no request, unless the server itself has brought the
 /// request to one of these limits, or you accept unsigned responses

@@ -65,9 +65,9 @@ use core::net::SocketAddr;
 ///   its hash. So of a challenge for HMAC-SHA256 with the name and a challenge for HMAC-SHA1 with
 ///   the hash, each is weaker than the other. If a signed 438 has no list of algorithms, or a
 ///   malformed one, the client uses the list of the challenge before.
-/// - If the challenge that the current message is signed for arrives once more, it is a refusal: the
-///   first refusal is dropped, and a refusal that arrives after the message was retransmitted ends
-///   the request. (Over a stream no message is retransmitted, so the first refusal ends the
+/// - If the challenge that the current message is signed for arrives once more, it is a refusal.
+///   The first refusal is dropped, and a refusal that arrives after the message was retransmitted
+///   ends the request. (Over a stream no message is retransmitted, so the first refusal ends the
 ///   request.) When another message becomes the current one, refusals of the former message no
 ///   longer count.
 /// - Servers do not sign the errors 400, 437 and 441 with which they refuse a message that is
@@ -86,9 +86,9 @@ use core::net::SocketAddr;
 /// So over UDP a single forged datagram ends no request, unless the server itself has brought the
 /// request to one of these limits, or you accept unsigned responses
 /// ([`accept_unsigned`](ClientBuilder::accept_unsigned)). An attacker who sends several forged
-/// datagrams can end a request, for example with three 401s that have the true realm and new nonces,
-/// and an attacker who keeps the server's answers from arriving can make the request time out. A
-/// request that a challenge ends fails with
+/// datagrams can end a request, for example with three 401s that have the true realm and new
+/// nonces, and an attacker who keeps the server's answers from arriving can make the request time
+/// out. A request that a challenge ends fails with
 /// [`RequestError::Unauthorized`](super::RequestError::Unauthorized) if the challenge is a 401 that
 /// answers a signed message, and otherwise with
 /// [`RequestError::TooManyChallenges`](super::RequestError::TooManyChallenges).

@@ -1779,9 +1779,9 @@ STUNP_INLINED uint64_t stunp_ice_consent_until(const stunp_ice_consent *consent,
  *     last. The next requests are then signed for the challenge of that message, so an unsigned
  *     437, which anybody can send, can change this challenge.
  *
- * After its first plan, a request answers no challenge and no doubt, but a challenge that arrives
- * exactly at the end of this plan is still answered. A request that is never polled within its first
- * plan ends without being sent. */
+ * After the first plan of a request, the client answers no challenge to it, but a challenge that
+ * arrives exactly at the end of this plan is still answered. A request that is never polled within
+ * its first plan ends without being sent. */
 
 /* The longest body of a request, in bytes. The attributes that the client adds to such a body still
  * fit into a message, unless the server's list of algorithms is very long. In that case
@@ -1820,8 +1820,8 @@ enum { STUNP_BODY_MAX = 60000 };
  *                       sends the name
  *   challenges          how often another message of a request may take the place of the current
  *                       one, because of a challenge or an unsigned error. By default 6 times. After
- *                       that, the next challenge ends the request, with STUNP_RESULT_UNAUTHORIZED if
- *                       it is a 401 to a signed message and otherwise with
+ *                       that, the next challenge ends the request, with STUNP_RESULT_UNAUTHORIZED
+ *                       if it is a 401 to a signed message and otherwise with
  *                       STUNP_RESULT_TOO_MANY_CHALLENGES, and the next unsigned error is dropped. A
  *                       restart of the server, a new address of the client, an expired nonce and a
  *                       forged challenge each count as one replacement. A wrong password ends a

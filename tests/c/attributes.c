@@ -9,9 +9,10 @@ static const uint8_t peer_6[16] = {0x20, 0x01, 0x0d, 0xb8, 0x12, 0x34, 0x56, 0x7
                                    0x33, 0x44, 0x55, 0x66, 0x77};
 static const uint8_t peer_4[4] = {192, 0, 2, 1};
 
-/* Two peers and a relayed address in one message. The walk returns the second peer too. */
+/* Two peers and two relayed addresses in one message, as TURN repeats them (RFC 8656, sections 7.2
+ * and 10.1). The walk returns each of them. */
 static void hides_addresses(void) {
-    uint8_t message[128], octets[17] = {0};
+    uint8_t message[136], octets[17] = {0};
     uint16_t port = 7, type = 0;
     size_t length = 0;
     CHECK(stunp_begin(STUNP_REQUEST, STUNP_CREATE_PERMISSION, id, 12, message, sizeof message), 20);
@@ -23,11 +24,34 @@ static void hides_addresses(void) {
     CHECK(stunp_add_xor_address(message, 128, 44, STUNP_XOR_RELAYED_ADDRESS, peer_4, 4, 32853), 56);
     CHECK(memcmp(message + 44, "\x00\x16\x00\x08", 4), 0);
     CHECK(memcmp(message + 48, response + 40, 8), 0);
-    /* The library adds no second attribute of a type, but may read one. */
-    CHECK(stunp_add_xor_address(message, 128, 56, STUNP_XOR_PEER_ADDRESS, peer_4, 4, 32853),
+    CHECK(stunp_add_xor_address(message, 67, 56, STUNP_XOR_PEER_ADDRESS, peer_4, 4, 32853),
+          STUNP_BUFFER_TOO_SMALL);
+    CHECK(stunp_add_xor_address(message, 68, 56, STUNP_XOR_PEER_ADDRESS, peer_4, 4, 32853), 68);
+    CHECK(memcmp(message + 56, "\x00\x12\x00\x08", 4), 0);
+    CHECK(memcmp(message + 60, response + 40, 8), 0);
+    /* Other types are added once, whatever call adds them. */
+    CHECK(stunp_add_xor_address(message, 136, 68, STUNP_XOR_MAPPED_ADDRESS, peer_4, 4, 32853), 80);
+    CHECK(stunp_add_xor_address(message, 136, 80, STUNP_XOR_MAPPED_ADDRESS, peer_6, 16, 32853),
           STUNP_ATTRIBUTE_EXISTS);
-    CHECK(stunp_add_xor_address(message, 128, 56, STUNP_XOR_MAPPED_ADDRESS, peer_4, 4, 32853), 68);
-    message[57] = STUNP_XOR_PEER_ADDRESS;
+    CHECK(stunp_add(message, 136, 80, STUNP_XOR_MAPPED_ADDRESS, "", 0), STUNP_ATTRIBUTE_EXISTS);
+    /* No call adds them after the signature or FINGERPRINT. */
+    stunp_writer writer = stunp_write_on(80, message, sizeof message);
+    stunp_write_xor_address(&writer, STUNP_XOR_RELAYED_ADDRESS, peer_6, 16, 32853);
+    stunp_write_fingerprint(&writer);
+    CHECK(stunp_written(&writer), 0);
+    CHECK(writer.length, 112);
+    stunp_write_xor_address(&writer, STUNP_XOR_RELAYED_ADDRESS, peer_4, 4, 32853);
+    CHECK(stunp_written(&writer), STUNP_CLOSED);
+    stunp_cursor relayed = {56, 0};
+    CHECK(stunp_walk(message, 112, &relayed, &type, &length), 60);
+    CHECK(stunp_walk(message, 112, &relayed, &type, &length), 72);
+    CHECK(stunp_walk(message, 112, &relayed, &type, &length), 84);
+    CHECK(type, STUNP_XOR_RELAYED_ADDRESS);
+    CHECK(stunp_read_xor_address(message, 112, 84, octets, 16, &port), 16);
+    CHECK(port == 32853 && memcmp(octets, peer_6, 16) == 0, 1);
+    memset(octets, 0, sizeof octets), port = 7;
+    /* From here on, the message ends after the second peer. */
+    message[3] = 48;
 
     stunp_cursor cursor = {0, 0};
     CHECK(stunp_walk(message, 68, &cursor, &type, &length), 24);

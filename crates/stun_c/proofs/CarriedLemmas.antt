@@ -1,7 +1,9 @@
 -- What a call in C returns is what the library makes of the same arguments, or a refusal.
 use Rattle.std.proofs.Common.{◌≡◌, ◌⊎◌, inl, inr, ℕ, ℤ, pos, List, [], ◌++◌, Bool, true, false}
 use Rattle.std.proofs.Common.{Option, Some, None, length, refl, sym, ◌∙◌, ap, arith, Ok, Err}
-use Rattle.std.specs.Prelude.{drop, take, if◌then◌else◌, nat_lt, nat_abs}
+use Rattle.std.specs.Prelude.{◌≢◌, ◌==◌, ◌-◌, ◌&&◌, ◌||◌, not, drop, take, if◌then◌else◌, nat_lt}
+use Rattle.std.specs.Prelude.{nat_abs}
+use Rattle.std.specs.Option.{option_or}
 use Rattle.std.specs.Str.{is_utf8}
 use Rattle.std.specs.declared.result.Result.{Result}
 use Rattle.stun_base.specs.Attributes.{XOR_MAPPED_ADDRESS}
@@ -10,12 +12,13 @@ use Rattle.stun_base.specs.declared.wire.error.StunParseError.{StunParseError}
 use Rattle.stun_base.specs.declared.wire.error.ValidateError.{ValidateError}
 use Rattle.stun_types.specs.Attribute.{TypedValue}
 use Rattle.stun_types.specs.ErrorCode.{CodeAndReason}
-use Rattle.stun_types.specs.Writing.{with_attribute}
+use Rattle.stun_types.specs.Writing.{is_set_apart, with_attribute}
 use Rattle.stun_types.specs.XorMappedAddress.{XoredAddress, xor_bytes, xor_key, xor_port, xored_of}
 use Rattle.stun_extra.specs.declared.fingerprint.Fingerprint.{Fingerprint}
 use Rattle.stun_extra.specs.declared.fingerprint.Fingerprint.TheVariants.{Absent, Misplaced, Right}
 use Rattle.stun_extra.specs.declared.fingerprint.Fingerprint.TheVariants.{Wrong}
 use Rattle.stun_numbers.specs.Algorithms.{algorithm_number}
+use Rattle.stun_numbers.specs.Messages.{base_refusal}
 use Rattle.stun_numbers.specs.Refusals.{message_refusal, refusal_number, refusal_of_parse, refusal_or}
 use Rattle.stun_numbers.specs.declared.refusal.Refusal.{Refusal}
 use Rattle.stun_numbers.specs.declared.refusal.Refusal.TheVariants as r
@@ -25,7 +28,8 @@ use Rattle.stun_c.specs.Extra.{fingerprint_number}
 use Rattle.stun_c.specs.Reading.{as_text, code_number, header_after, header_in, octets_shown}
 use Rattle.stun_c.specs.Reading.{port_after, shown_octets, sized_value, unless_malformed}
 use Rattle.stun_c.specs.Turn.{attribute_number}
-use Rattle.stun_c.specs.Writing.{added_attribute, added_number, adding_refusal, is_size}
+use Rattle.stun_c.specs.Writing.{added_attribute, added_number, adding_refusal, fit_refusal}
+use Rattle.stun_c.specs.Writing.{is_size, shows_kind}
 use Rattle.stun_c.specs.declared.header.Header.{Header}
 
 -- ---- numbers
@@ -147,6 +151,44 @@ numbered buffer count attribute value bytes h =
     added buffer count attribute value bytes
     (if-so (nat_lt attribute 65536) (added_attribute buffer count attribute value) r.BadArgument
     bytes h)
+
+-- what may repeat is refused for its message or its room alone
+pub again : (o p : Option Refusal) (bytes : List ℕ) → o ≡ None → p ≡ None
+    → refusal_or (option_or o p) (Ok bytes) ≡ Ok bytes
+again None None bytes base fits = refl
+again None (Some why) bytes base fits = cc
+again (Some why) p bytes base fits = cc
+
+differ : (m n : ℕ) (b : Bool) → (m == n) ≡ b → m ≢ n → b ≡ false
+differ m n true is other = absurd (other (eqb-true m n is))
+differ m n false is other = refl
+
+-- what may not repeat is refused, if nothing else is refused before
+refused_once : (o p : Option Refusal) (a b apart shown : Bool) (bytes : List ℕ) → a ≡ false
+    → b ≡ false → shown ≡ true
+    → refusal_or (option_or o (if apart then Some r.NotAllowed
+    else if not (a || b) && shown then Some r.AttributeExists else p)) (Ok bytes) ≢ Ok bytes
+refused_once (Some why) p a b apart shown bytes one two is h = cc
+refused_once None p true b apart shown bytes one two is h = cc
+refused_once None p false true apart shown bytes one two is h = cc
+refused_once None p false false true shown bytes one two is h = cc
+refused_once None p false false false true bytes one two is h = cc
+refused_once None p false false false false bytes one two is h = cc
+
+pub shown_once : (buffer : List ℕ) (count attribute : ℕ) (value bytes : List ℕ)
+    → attribute ≢ 0x0012 → attribute ≢ 0x0016 → shows_kind attribute (take count buffer) ≡ true
+    → added_number buffer count attribute value ≢ Ok bytes
+shown_once buffer count attribute value bytes peer relayed shown h =
+    let made = with_attribute (take count buffer) (record { kind = attribute; value = value }) in
+    let added' = if-so (nat_lt attribute 65536) (added_attribute buffer count attribute value)
+    r.BadArgument bytes h in
+    let same = added buffer count attribute value bytes added' in
+    refused_once (base_refusal buffer count)
+    (fit_refusal (take count buffer) (length buffer - count) (length value))
+    (attribute == 0x0012) (attribute == 0x0016) (is_set_apart attribute)
+    (shows_kind attribute (take count buffer)) made
+    (differ attribute 0x0012 _ refl peer) (differ attribute 0x0016 _ refl relayed) shown
+    (added' ∙ ap Ok same)
 
 pub written : (made : Result (List ℕ) Refusal) (before after : List ℕ) (result : ℤ)
     → Writes made before result after

@@ -10,6 +10,7 @@ use Rattle.stun_base.specs.Attributes.{ERROR_CODE}
 use Rattle.stun_base.specs.Header.{transaction_id_field}
 use Rattle.stun_base.specs.MessageType.{class_of_bits, type_number}
 use Rattle.stun_base.specs.declared.keys.algorithm.IntegrityAlgorithm.{IntegrityAlgorithm}
+use Rattle.stun_extra.specs.AttributeTypes.{XOR_PEER_ADDRESS}
 use Rattle.stun_types.specs.Attribute.{attribute_length}
 use Rattle.stun_types.specs.ErrorCode.{error_value}
 use Rattle.stun_types.specs.Grammar.{spelled_message}
@@ -32,6 +33,10 @@ begun_message class method id =
     then Ok (spelled_message (type_number (class_of_bits class) method) (big_number 12 id) [])
     else Err BadArgument
 
+-- XOR-RELAYED-ADDRESS (RFC 8656, section 18.5)
+abbrev pub XOR_RELAYED_ADDRESS : ℕ
+XOR_RELAYED_ADDRESS = 0x0016
+
 -- whether a message has a visible attribute of a type
 abbrev pub shows_kind : ℕ → List ℕ → Bool
 shows_kind kind message = is_some (find (λ m. m.1.kind == kind) (visible message))
@@ -43,12 +48,18 @@ fit_refusal message room n =
     if nat_lt max_length (length_with message n) then Some MessageTooLong
     else if nat_lt room (attribute_length n) then Some BufferTooSmall else None
 
+-- the types of TURN that a message may have more than once: XOR-RELAYED-ADDRESS, because the
+-- response to a client that asks for both families of addresses has one of each (RFC 8656, section
+-- 7.2), and XOR-PEER-ADDRESS, because a CreatePermission has any number of peers (section 10.1)
+abbrev pub may_repeat : ℕ → Bool
+may_repeat kind = (kind == XOR_PEER_ADDRESS) || (kind == XOR_RELAYED_ADDRESS)
+
 -- why an attribute is not added: the first reason that applies
 abbrev pub adding_refusal : List ℕ → ℕ → ℕ → ℕ → Option Refusal
 adding_refusal buffer count kind n =
     option_or (base_refusal buffer count)
     (if is_set_apart kind then Some NotAllowed
-    else if shows_kind kind (take count buffer) then Some AttributeExists
+    else if not (may_repeat kind) && shows_kind kind (take count buffer) then Some AttributeExists
     else fit_refusal (take count buffer) (length buffer - count) n)
 
 -- a message with one more attribute, after it in its buffer

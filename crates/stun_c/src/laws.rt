@@ -1,8 +1,8 @@
 //! Laws about the definitions that the contracts of this crate cite. They state what
 //! `include/stunp.h` says about several calls together. They do nothing when they run.
 
-ghost use Rattle.std.specs.Prelude.{◌≡◌, ◌≤◌, ◌<◌, ◌^◌, ◌+◌, ◌⊎◌, ℕ, ℤ, pos, suc, Bool, List, []};
-ghost use Rattle.std.specs.Prelude.{◌∷◌, ◌++◌, drop, take, length, map};
+ghost use Rattle.std.specs.Prelude.{◌≡◌, ◌≢◌, ◌≤◌, ◌<◌, ◌^◌, ◌+◌, ◌-◌, ◌⊎◌, ℕ, ℤ, pos, suc};
+ghost use Rattle.std.specs.Prelude.{Bool, List, [], ◌∷◌, ◌++◌, drop, take, length, map};
 ghost use Rattle.std.specs.Prelude.{slice_get, cond, IfOk, Some, None, Result, Ok, true};
 ghost use Rattle.std.specs.Option.{option_map};
 ghost use Rattle.std.specs.Str.{is_utf8};
@@ -31,6 +31,7 @@ ghost use Rattle.stun_extra.specs.Unknown.{unknown_attribute_error};
 ghost use Rattle.stun_extra.specs.declared.fingerprint.Fingerprint.TheVariants.{Right};
 ghost use Rattle.stun_numbers.specs.Algorithms.{algorithm_number};
 ghost use Rattle.stun_numbers.specs.Buffers.{within_room};
+ghost use Rattle.stun_numbers.specs.Messages.{base_refusal};
 ghost use Rattle.stun_numbers.specs.Refusals.{refusal_of_write};
 ghost use Rattle.stun_c.specs.declared.walk.Cursor.{Cursor};
 ghost use Rattle.stun_c.specs.Answers.{Writes, WritesWithin, parse_answer, verify_answer};
@@ -185,6 +186,26 @@ pub fn attributes_are_added_behind_the_message()
         → Writes made before result after
         → ((bytes rest : List ℕ) × (made ≡ Ok bytes) × (result ≡ pos (length bytes))
         × (after ≡ bytes ++ rest)) ⊎ (after ≡ before) }
+{}
+
+/// A call that adds an attribute adds XOR-PEER-ADDRESS (`peer`) and XOR-RELAYED-ADDRESS (`relayed`)
+/// also if the message has an attribute of the same type, as long as the message is open and there
+/// is room. Any other attribute is refused if the message has one of its type (`once`).
+pub fn addresses_of_turn_are_added_again()
+    ensures peer { (buffer : List ℕ) (count : ℕ) (value : List ℕ)
+        → base_refusal buffer count ≡ None
+        → fit_refusal (take count buffer) (length buffer - count) (length value) ≡ None
+        → added_number buffer count 0x0012 value
+        ≡ Ok (with_attribute (take count buffer) (record { kind = 0x0012; value = value })) }
+    ensures relayed { (buffer : List ℕ) (count : ℕ) (value : List ℕ)
+        → base_refusal buffer count ≡ None
+        → fit_refusal (take count buffer) (length buffer - count) (length value) ≡ None
+        → added_number buffer count 0x0016 value
+        ≡ Ok (with_attribute (take count buffer) (record { kind = 0x0016; value = value })) }
+    ensures once { (buffer : List ℕ) (count attribute : ℕ) (value bytes : List ℕ)
+        → attribute ≢ 0x0012 → attribute ≢ 0x0016
+        → shows_kind attribute (take count buffer) ≡ true
+        → added_number buffer count attribute value ≢ Ok bytes }
 {}
 
 /// States that `stunp_begin` writes a message with the class, the method and the transaction ID

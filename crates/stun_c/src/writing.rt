@@ -18,7 +18,8 @@ ghost use Rattle.stun_c.specs.Answers.{Writes, WritesWithin};
 ghost use Rattle.stun_c.specs.code.Room.{HasRoom};
 ghost use Rattle.stun_c.specs.Writing.{begun_message, fit_refusal, adding_refusal, digest_refusal};
 ghost use Rattle.stun_c.specs.Writing.{added_attribute, added_number, added_error};
-ghost use Rattle.stun_c.specs.Writing.{error_argument_refusal, signed_message, shows_kind};
+ghost use Rattle.stun_c.specs.Writing.{error_argument_refusal, may_repeat, signed_message};
+ghost use Rattle.stun_c.specs.Writing.{shows_kind};
 
 use crate::buffer::write;
 use byteorder::{BigEndian, ByteOrder};
@@ -36,6 +37,20 @@ use stun_types::attribute::attribute_length;
 use stun_types::limits::{MAX_LENGTH, TEXT_LIMIT};
 use stun_types::message::{Message, MessageWriteMutSlice};
 use stun_types::prelude::*;
+
+/// The type of XOR-PEER-ADDRESS (RFC 8656, section 18.3).
+const XOR_PEER_ADDRESS: u16 = 0x0012;
+
+/// The type of XOR-RELAYED-ADDRESS (RFC 8656, section 18.5).
+const XOR_RELAYED_ADDRESS: u16 = 0x0016;
+
+/// Returns `true` if a message may have several attributes of this type, which TURN needs for
+/// XOR-PEER-ADDRESS and XOR-RELAYED-ADDRESS (RFC 8656, sections 10.1 and 7.2).
+fn may_repeat(kind: AttributeType) -> bool
+    ensures { result ≡ may_repeat kind.0 }
+{
+    kind.value() == XOR_PEER_ADDRESS || kind.value() == XOR_RELAYED_ADDRESS
+}
 
 /// Returns `true` if the message has a visible attribute of this type.
 pub fn shows_kind(message: &Message<'_>, kind: AttributeType) -> bool
@@ -79,7 +94,8 @@ pub fn fits(message: &Message<'_>, room: usize, value_length: usize) -> Result<(
 ///
 /// - The errors of `base_message`.
 /// - `NotAllowed`: attributes of this type are written only by calls of their own.
-/// - `AttributeExists`: the message has an attribute of this type.
+/// - `AttributeExists`: the message has an attribute of this type, and the type is neither
+///   XOR-PEER-ADDRESS nor XOR-RELAYED-ADDRESS.
 /// - `MessageTooLong` or `BufferTooSmall`: the attribute does not fit (`fits`).
 fn check_adding(
     buffer: &[u8],
@@ -96,7 +112,7 @@ fn check_adding(
     if is_set_apart(kind) {
         return Err(Refusal::NotAllowed);
     }
-    if shows_kind(&message, kind) {
+    if !may_repeat(kind) && shows_kind(&message, kind) {
         return Err(Refusal::AttributeExists);
     }
     fits(&message, buffer.len() - count, value_length)

@@ -94,8 +94,8 @@
  * buffer. A call reads its inputs from the first byte up to their length, writes its outputs, and
  * touches no other memory.
  *
- * A pointer may be null only if its length is 0. Lengths are at most PTRDIFF_MAX, and are in bytes
- * unless the description of a call says otherwise. An output must not overlap any other argument.
+ * A pointer may be null only if its length is 0. Lengths are in bytes unless the description of a
+ * call says otherwise. An output must not overlap any other argument.
  * Numbers are in the processor's byte order. Texts are UTF-8 and are used as they are. RFC 8489
  * asks you to prepare them with OpaqueString first (RFC 8265); the library leaves this to you.
  *
@@ -120,6 +120,10 @@
  * description lists the errors in the order of testing: if several apply, the call returns the
  * first one. stunp_strerror returns a text for each error. A call that succeeds leaves the rest of
  * the buffer, after the bytes that it writes, unchanged.
+ *
+ * If you pass a length above PTRDIFF_MAX, such as the -1 of a recv that failed, a call of the
+ * exported library fails with STUNP_BAD_ARGUMENT before it tests for any other error, and reads and
+ * writes nothing there; stunp_is_stun returns 0. The proved archives leave this to you.
  *
  * Test a result with `< 0` or `> 0`, or compare it with the value that you expect. An error is not
  * 0, so `if (stunp_verify(..))` would accept every forgery. If you need only yes or no, call
@@ -396,7 +400,8 @@ typedef enum stunp_refusal {
     STUNP_CLOSED = -12,              /* the message has an integrity attribute, which only
                                       * FINGERPRINT may follow, or FINGERPRINT, which must be the
                                       * last attribute */
-    STUNP_ATTRIBUTE_EXISTS = -13,    /* the message has an attribute of this type already */
+    STUNP_ATTRIBUTE_EXISTS = -13,    /* the message has an attribute of this type already, which
+                                      * may not be repeated */
     STUNP_MESSAGE_TOO_LONG = -14,    /* the message would have more than 65532 bytes after its
                                       * header */
     STUNP_MISSING_ATTRIBUTE = -15,   /* no attribute of this type is visible */
@@ -427,6 +432,30 @@ typedef enum stunp_refusal {
     STUNP_WRONG_HANDLE = -29         /* the handle has a value of another kind, or a stunp_user that
                                       * was made for another realm or for other algorithms */
 } stunp_refusal;
+
+/* Fails to compile if an enumeration does not have the size of an int. The library is compiled with
+ * enumerations of this size, so a program that is compiled with -fshort-enums would use structs of
+ * another size than the library. */
+#if defined __cplusplus && __cplusplus >= 201103L
+#define STUNP_ENUM_IS_INT(name)                                              \
+    static_assert(sizeof(name) == sizeof(int),                               \
+                  #name " must be an int: compile without -fshort-enums")
+#elif defined __STDC_VERSION__ && __STDC_VERSION__ >= 201112L
+#define STUNP_ENUM_IS_INT(name)                                              \
+    _Static_assert(sizeof(name) == sizeof(int),                              \
+                   #name " must be an int: compile without -fshort-enums")
+#else
+#define STUNP_ENUM_IS_INT(name)                                              \
+    typedef char name##_must_be_an_int__compile_without_fshort_enums         \
+        [sizeof(name) == sizeof(int) ? 1 : -1]
+#endif
+STUNP_ENUM_IS_INT(stunp_message_class);
+STUNP_ENUM_IS_INT(stunp_message_method);
+STUNP_ENUM_IS_INT(stunp_attribute_type);
+STUNP_ENUM_IS_INT(stunp_algorithm);
+STUNP_ENUM_IS_INT(stunp_feature);
+STUNP_ENUM_IS_INT(stunp_fingerprint);
+STUNP_ENUM_IS_INT(stunp_refusal);
 
 /* Lengths in bytes. */
 enum {
@@ -882,7 +911,12 @@ int64_t stunp_begin(stunp_message_class message_class, uint32_t method, const ui
  * These calls update the length field of the message, write the attribute at the end of the message
  * with zero bytes as padding, and leave the rest of the buffer unchanged. Each call reads the
  * message from its start, so the time to write a message is proportional to the square of the
- * number of attributes: 0.1 ms for 100 attributes. */
+ * number of attributes: 0.1 ms for 100 attributes.
+ *
+ * A message has at most one attribute of each type, except for the two types that TURN repeats: a
+ * CreatePermission request has an XOR-PEER-ADDRESS for each peer, and the response to an Allocate
+ * request for both families has two XOR-RELAYED-ADDRESS (RFC 8656, sections 10.1 and 7.2). Read
+ * them with stunp_walk, because the calls by type find only the first one. */
 
 /* Appends an attribute with this value, which is written unchanged. The integrity attributes and
  * FINGERPRINT have calls of their own: stunp_sign and stunp_add_fingerprint.
@@ -893,7 +927,8 @@ int64_t stunp_begin(stunp_message_class message_class, uint32_t method, const ui
  *                           the buffer does not hold one whole message (stunp_parse)
  *   STUNP_CLOSED            the message has an integrity attribute or FINGERPRINT already
  *   STUNP_NOT_ALLOWED       `type` is an integrity attribute or FINGERPRINT
- *   STUNP_ATTRIBUTE_EXISTS  the message has an attribute of this type already
+ *   STUNP_ATTRIBUTE_EXISTS  the message has an attribute of this type already, and the type is
+ *                           neither STUNP_XOR_PEER_ADDRESS nor STUNP_XOR_RELAYED_ADDRESS
  *   STUNP_MESSAGE_TOO_LONG  the message would have more than 65532 bytes after its header
  *   STUNP_BUFFER_TOO_SMALL  the attribute does not fit into `room` bytes */
 STUNP_USE_RESULT STUNP_CHANGES(1, 2) STUNP_READS(5, 6)
@@ -910,7 +945,8 @@ int64_t stunp_add(uint8_t *buffer, size_t room, size_t length, uint32_t type, co
  *                           the buffer does not hold one whole message (stunp_parse)
  *   STUNP_CLOSED            the message has an integrity attribute or FINGERPRINT already
  *   STUNP_NOT_ALLOWED       `type` is an integrity attribute or FINGERPRINT
- *   STUNP_ATTRIBUTE_EXISTS  the message has an attribute of this type already
+ *   STUNP_ATTRIBUTE_EXISTS  the message has an attribute of this type already, and the type is
+ *                           neither STUNP_XOR_PEER_ADDRESS nor STUNP_XOR_RELAYED_ADDRESS
  *   STUNP_MESSAGE_TOO_LONG  the message would have more than 65532 bytes after its header
  *   STUNP_BUFFER_TOO_SMALL  the attribute does not fit into `room` bytes */
 STUNP_USE_RESULT STUNP_CHANGES(1, 2)
@@ -928,7 +964,8 @@ int64_t stunp_add_number(uint8_t *buffer, size_t room, size_t length, uint32_t t
  *                           the buffer does not hold one whole message (stunp_parse)
  *   STUNP_CLOSED            the message has an integrity attribute or FINGERPRINT already
  *   STUNP_NOT_ALLOWED       `type` is an integrity attribute or FINGERPRINT
- *   STUNP_ATTRIBUTE_EXISTS  the message has an attribute of this type already
+ *   STUNP_ATTRIBUTE_EXISTS  the message has an attribute of this type already, and the type is
+ *                           neither STUNP_XOR_PEER_ADDRESS nor STUNP_XOR_RELAYED_ADDRESS
  *   STUNP_MESSAGE_TOO_LONG  the message would have more than 65532 bytes after its header
  *   STUNP_BUFFER_TOO_SMALL  the attribute does not fit into `room` bytes */
 STUNP_USE_RESULT STUNP_CHANGES(1, 2) STUNP_READS(5, 6)
@@ -947,7 +984,8 @@ int64_t stunp_add_address(uint8_t *buffer, size_t room, size_t length, uint32_t 
  *                           the buffer does not hold one whole message (stunp_parse)
  *   STUNP_CLOSED            the message has an integrity attribute or FINGERPRINT already
  *   STUNP_NOT_ALLOWED       `type` is an integrity attribute or FINGERPRINT
- *   STUNP_ATTRIBUTE_EXISTS  the message has an attribute of this type already
+ *   STUNP_ATTRIBUTE_EXISTS  the message has an attribute of this type already, and the type is
+ *                           neither STUNP_XOR_PEER_ADDRESS nor STUNP_XOR_RELAYED_ADDRESS
  *   STUNP_MESSAGE_TOO_LONG  the message would have more than 65532 bytes after its header
  *   STUNP_BUFFER_TOO_SMALL  the attribute does not fit into `room` bytes */
 STUNP_USE_RESULT STUNP_CHANGES(1, 2) STUNP_READS(5, 6)
@@ -1064,7 +1102,8 @@ STUNP_INLINED void stunp_write_address(stunp_writer *writer, uint32_t type, cons
                                        size_t address_length, uint32_t port);
 
 /* Appends an attribute with an XORed address (stunp_add_xor_address), such as
- * STUNP_XOR_MAPPED_ADDRESS. */
+ * STUNP_XOR_MAPPED_ADDRESS. You may append several STUNP_XOR_PEER_ADDRESS and several
+ * STUNP_XOR_RELAYED_ADDRESS to a message. */
 STUNP_INLINED void stunp_write_xor_address(stunp_writer *writer, uint32_t type,
                                            const uint8_t *address, size_t address_length,
                                            uint32_t port);

@@ -327,8 +327,8 @@
  *
  * Calls read their arguments only during the call, and copy what is needed later. Only a
  * stunp_body, a stunp_writer, a stunp_ice_checks and a stunp_ice_candidate point to memory of
- * yours. Lengths are at most PTRDIFF_MAX. An output must not overlap any other argument. A pointer
- * that is passed with a length may be null only if the length is 0. A pointer to a result may be
+ * yours. An output must not overlap any other argument. A pointer that is passed with a length may
+ * be null only if the length is 0. A pointer to a result may be
  * null, unless the description of the call or STUNP_NOT_NULL says otherwise.
  *
  * Texts are UTF-8 and are used as they are. RFC 8489 asks you to prepare them with OpaqueString
@@ -337,6 +337,10 @@
  * A call that fails returns a negative stunp_refusal, for which stunp_strerror has a text, and
  * changes nothing, unless its description says otherwise. A call tests for its errors in the order
  * in which its description lists them: if several apply, it returns the first one.
+ *
+ * If you pass a length above PTRDIFF_MAX, such as the -1 of a recv that failed, a call of the
+ * exported library fails with STUNP_BAD_ARGUMENT before it tests for any other error, and reads and
+ * writes nothing there. The proved archives leave this to you.
  *
  * The library does not overwrite passwords and keys before it frees them. If an attacker may read
  * memory that was freed, use an allocator that overwrites each block (stunp_set_memory of stunp.h,
@@ -456,7 +460,7 @@ typedef enum stunp_credentials {
  *
  *   size                sizeof (stunp_endpoint_server_settings), set by STUNP_INIT
  *   credentials         the credentials that clients need. By default STUNP_LONG_TERM
- *   realm               (realm) the realm, of at most 763 bytes. It has no default
+ *   realm               (realm) the realm, of 1 to 763 bytes. It has no default
  *   secret              (realm) 32 random bytes. Anybody who has them can make nonces that the
  *                       server accepts. It has no default. A secret that is one repeated byte is
  *                       refused, because it was probably never filled
@@ -469,6 +473,7 @@ typedef enum stunp_credentials {
  *                       requests have it too (see below)
  *   understood          the types of attributes that you understand in addition to those of STUN,
  *                       as `understood_count` numbers: for a TURN server STUNP_LIFETIME and so on.
+ *                       It may be null only if `understood_count` is 0.
  *                       The server answers a request with a 420 if the request has an attribute of
  *                       any other type that must be understood
  *   nonce_seconds       (realm) for how many seconds the server sends the same nonce to a client,
@@ -673,7 +678,8 @@ enum {
 /* The data with which you answer one accepted request. It is plain data: you may copy and store it,
  * and use it on any thread, without the server. It contains a key of the user, so wipe each copy
  * (stunp_reply_wipe). Pass it to the calls whose names begin with stunp_reply, and do not use its
- * fields yourself. */
+ * fields yourself. These calls refuse a reply that was wiped, a reply of zeros, and a reply whose
+ * fields cannot be those that the library wrote. */
 typedef struct {
     uint8_t id[12];
     uint8_t key[64];
@@ -730,8 +736,9 @@ typedef struct {
  *   bytes, length  the bytes of the datagram, and their number
  *   from           the address that the datagram came from
  *   received       the struct to which the outcome of this datagram is written, with the
- *                  stunp_reply for an accepted request. Set its `size` with STUNP_INIT. If the
- *                  pointer is null, you cannot answer requests that are returned to you
+ *                  stunp_reply for an accepted request. Set its `size` with STUNP_INIT. Each
+ *                  datagram of a call needs a struct of its own. If the pointer is null, you cannot
+ *                  answer requests that are returned to you
  */
 typedef struct {
     const uint8_t *bytes;
@@ -761,7 +768,8 @@ typedef struct {
  * both keys, and leave the fields that you do not have null.
  *
  *   size         sizeof (stunp_found_user), set by STUNP_INIT
- *   name         the name. If it is not the name in the request, the request is refused
+ *   name         the name, of at least one byte. If it is not the name in the request, the request
+ *                is refused
  *   name_length  the length of the name, in bytes
  *   password     the password, which ends with a zero byte. If it is set, the keys are ignored
  *   sha1_key     16 bytes: the key for HMAC-SHA1 (stunp_long_term_key)
@@ -867,8 +875,8 @@ typedef struct {
  *   STUNP_FULL_HANDLE    the handle is not empty
  *   STUNP_BAD_ARGUMENT   `algorithms` is above 3, `anonymous_username` is above 2, or
  *                        `nonce_seconds` is below 30 and not 0, or above 2592000 (30 days); all
- *                        bytes of the secret are equal; or there is a previous secret, and all its
- *                        bytes are equal or it equals the secret
+ *                        bytes of the secret are equal; there is a previous secret, and all its
+ *                        bytes are equal or it equals the secret; or the realm has no bytes
  *   STUNP_NOT_TEXT       the realm or SOFTWARE is not UTF-8
  *   STUNP_TEXT_TOO_LONG  the realm or SOFTWARE has more than 763 bytes
  *   STUNP_OUT_OF_MEMORY  an allocation failed */
@@ -910,9 +918,10 @@ int64_t stunp_endpoint_server_new_open(stunp_endpoint_server *server, const char
 /* Creates a server with these settings, which are copied. `settings` must not be null.
  *
  * Returns 0. Errors:
- *   STUNP_BAD_ARGUMENT  `size` is wrong; `credentials` is STUNP_LONG_TERM, and `secret` or `realm`
- *                       is null; `credentials` is not STUNP_LONG_TERM, and a field that is marked
- *                       with (realm) is neither 0 nor null; or `credentials` is above 2
+ *   STUNP_BAD_ARGUMENT  `size` is wrong; `understood` is null, and `understood_count` is not 0;
+ *                       `credentials` is STUNP_LONG_TERM, and `secret` or `realm` is null;
+ *                       `credentials` is not STUNP_LONG_TERM, and a field that is marked with
+ *                       (realm) is neither 0 nor null; or `credentials` is above 2
  * and then the errors of stunp_endpoint_server_new_with, or of
  * stunp_endpoint_server_new_short_term. */
 STUNP_NOT_NULL(1, 2)
@@ -968,22 +977,25 @@ STUNP_INLINED int64_t stunp_endpoint_users_new(stunp_endpoint_users *users,
  *   STUNP_WRONG_HANDLE   the handle has no table
  *   STUNP_NOT_TEXT       the name or the password is not UTF-8
  *   STUNP_TEXT_TOO_LONG  the name has more than STUNP_NAME_MAX bytes
- *   STUNP_BAD_ARGUMENT   the password has no bytes
+ *   STUNP_BAD_ARGUMENT   the name or the password has no bytes
  *   STUNP_OUT_OF_MEMORY  an allocation failed */
 STUNP_READS(2, 3) STUNP_READS(4, 5) STUNP_NOT_NULL(1)
 int64_t stunp_endpoint_users_add(stunp_endpoint_users *users, const char *name, size_t name_length,
                                  const char *password, size_t password_length);
 
 /* Adds a user with keys that you stored in place of a password (stunp_long_term_key). The keys must
- * have been made for the realm of the table. Pass the length 0 for a key that you do not have. If
- * the table already has a user with this name, the keys replace the user's password or keys.
+ * have been made for the realm of the table. Pass the length 0 for the one key that you do not
+ * have. If the table already has a user with this name, the keys replace the user's password or
+ * keys.
  *
  * Returns 0. Errors:
  *   STUNP_EMPTY_HANDLE   the handle is empty
  *   STUNP_WRONG_HANDLE   the handle has no table, or a table of users with short-term credentials
  *   STUNP_NOT_TEXT       the name is not UTF-8
  *   STUNP_TEXT_TOO_LONG  the name has more than STUNP_NAME_MAX bytes
- *   STUNP_BAD_ARGUMENT   `sha1_length` is neither 0 nor 16, or `sha256_length` neither 0 nor 32
+ *   STUNP_BAD_ARGUMENT   the name has no bytes; both keys have none, so that the user could never
+ *                        be accepted; or `sha1_length` is neither 0 nor 16, or `sha256_length`
+ *                        neither 0 nor 32
  *   STUNP_OUT_OF_MEMORY  an allocation failed */
 STUNP_READS(2, 3) STUNP_READS(4, 5) STUNP_READS(6, 7) STUNP_NOT_NULL(1)
 int64_t stunp_endpoint_users_add_keys(stunp_endpoint_users *users, const char *name,
@@ -1014,8 +1026,8 @@ STUNP_INLINED void stunp_endpoint_users_free(stunp_endpoint_users *users);
  * there is no user, or if the server has short-term credentials.
  *
  * Returns 0. Errors:
- *   STUNP_BAD_ARGUMENT   `found->size` is wrong, `found->name` is null, `found->password` is empty,
- *                        or `found` has neither a password nor a key
+ *   STUNP_BAD_ARGUMENT   `found->size` is wrong, `found->name` is null or has no bytes,
+ *                        `found->password` is empty, or `found` has neither a password nor a key
  *   STUNP_FULL_HANDLE    the table's handle is not empty
  *   STUNP_EMPTY_HANDLE   the server's handle is empty, or null
  *   STUNP_WRONG_HANDLE   the server's handle has no server, or a server without credentials; or it
@@ -1151,7 +1163,7 @@ stunp_endpoint_server_receive_with_cause(const stunp_endpoint_server *server,
  * send all of them with one system call (sendmmsg).
  *
  *     enum { BATCH = 32 };
- *     static uint8_t out[BATCH * 2048]; // STUNP_ANSWER_MAX or more
+ *     static uint8_t out[BATCH * 2048]; // at least STUNP_ANSWER_MAX, so that every answer fits
  *     stunp_judged judged[BATCH];
  *     for (size_t done = 0, more; done < count; done += more) { // count <= BATCH
  *         more = stunp_endpoint_server_receive_many(server, users, datagrams + done, count - done,
@@ -1165,14 +1177,24 @@ stunp_endpoint_server_receive_with_cause(const stunp_endpoint_server *server,
  * If the answer to a datagram does not fit into the rest of the buffer, the call ends, and returns
  * the number of datagrams before this datagram. The outcome of this datagram then has the kind
  * STUNP_BUFFER_TOO_SMALL and the length of the answer, and no outcome after it is written. Nothing
- * is lost: pass the remaining datagrams again, with new room. If `room` is at least
- * STUNP_ANSWER_MAX, each call judges at least one datagram. If judging a datagram fails with any
- * other error, this error is the kind of its outcome, and the call continues with the next
- * datagram.
+ * is lost: pass the remaining datagrams again, with new room.
+ *
+ * If no answer is in the buffer yet, the answer does not fit into the whole buffer. The datagram
+ * then counts as judged, with this error as the kind of its outcome, and the call continues with
+ * the next datagram. So each call judges at least one datagram if `count` is not 0, and a loop over
+ * the datagrams ends. To send this answer, judge the datagram again with a larger buffer. With
+ * STUNP_ANSWER_MAX bytes, every answer fits.
+ *
+ * If judging a datagram fails with any other error, this error is the kind of its outcome, and the
+ * call continues with the next datagram. A datagram whose `received` is that of an earlier datagram
+ * has the kind STUNP_BAD_ARGUMENT: it is not judged, and the outcome of the earlier datagram stays
+ * as it is. If the structs are not in the order of an array, this test compares each with those
+ * before it.
  *
  * `datagrams`, `judged` and `out` must not overlap.
  *
- * Returns the number of datagrams that were judged, from the first datagram on. */
+ * Returns the number of datagrams that were judged, from the first datagram on: at least 1, unless
+ * `count` is 0. */
 STUNP_USE_RESULT
 STUNP_INLINED size_t
 stunp_endpoint_server_receive_many(const stunp_endpoint_server *server,
@@ -1269,9 +1291,9 @@ stunp_endpoint_server_identify(const stunp_endpoint_server *server,
  *   STUNP_WRONG_HANDLE   the handle has no server with long-term credentials
  *   STUNP_NOT_TEXT       the name or the password is not UTF-8
  *   STUNP_TEXT_TOO_LONG  the name has more than STUNP_NAME_MAX bytes
- *   STUNP_BAD_ARGUMENT   `has_password` is true and the password is empty; or `has_password` is
- *                        false, and `sha1_length` is neither 0 nor 16, or `sha256_length` neither 0
- *                        nor 32
+ *   STUNP_BAD_ARGUMENT   the name has no bytes; `has_password` is true and the password is empty;
+ *                        or `has_password` is false, and both keys have no bytes, `sha1_length` is
+ *                        neither 0 nor 16, or `sha256_length` neither 0 nor 32
  * and then the errors of stunp_endpoint_server_receive. */
 STUNP_USE_RESULT STUNP_READS(2, 3) STUNP_READS(4, 5) STUNP_READS(7, 8) STUNP_READS(9, 10)
 STUNP_READS(11, 12) STUNP_WRITES(15, 16) STUNP_NOT_NULL(1, 13, 17)
@@ -1296,8 +1318,8 @@ int64_t stunp_endpoint_server_resume_own(stunp_endpoint_server *server, const ch
  * making this call, until the password changes or the account ends.
  *
  * Returns a stunp_kind. Errors:
- *   STUNP_BAD_ARGUMENT   `found->size` is wrong, `found->name` is null, `found->password` is empty,
- *                        or `found` has neither a password nor a key
+ *   STUNP_BAD_ARGUMENT   `found->size` is wrong, `found->name` is null or has no bytes,
+ *                        `found->password` is empty, or `found` has neither a password nor a key
  *   STUNP_EMPTY_HANDLE   the handle is empty, or null
  *   STUNP_WRONG_HANDLE   the server's handle has no server, or a server without credentials; or it
  *                        has a server with short-term credentials, and the user has only keys
@@ -1316,8 +1338,8 @@ stunp_endpoint_server_resume(const stunp_endpoint_server *server, const stunp_fo
  * learn why stunp_endpoint_server_identify refuses a request, pass null as `found`.
  *
  * Returns a stunp_cause, or 0 if the request is not refused. Errors:
- *   STUNP_BAD_ARGUMENT   `found->size` is wrong, `found->name` is null, `found->password` is empty,
- *                        or `found` has neither a password nor a key
+ *   STUNP_BAD_ARGUMENT   `found->size` is wrong, `found->name` is null or has no bytes,
+ *                        `found->password` is empty, or `found` has neither a password nor a key
  *   STUNP_EMPTY_HANDLE   the handle is empty, or null
  *   STUNP_WRONG_HANDLE   the server's handle has no server, or a server without credentials
  *   STUNP_NOT_TEXT       the name or the password is not UTF-8
@@ -1342,24 +1364,32 @@ stunp_endpoint_server_cause_for(const stunp_endpoint_server *server, const stunp
  *     if (length > 0) send_to(socket, out, (size_t)length, &peer); */
 
 /* Starts the success response to a request, in the buffer `out` of `room` bytes, and returns a
- * writer for the response. */
+ * writer for the response. If the reply was wiped, is zeros, or has a key of more than 64 bytes,
+ * the writer has the error STUNP_BAD_ARGUMENT, and nothing is written. */
 STUNP_INLINED stunp_writer stunp_reply_success(const stunp_reply *reply, uint8_t *out,
                                                size_t room);
 
 /* Starts an error response to a request, in the buffer `out` of `room` bytes, and returns a writer
- * for the response. Writes ERROR-CODE with `code`, which must be from 300 to 699, and `reason`. */
+ * for the response. Writes ERROR-CODE with `code`, which must be from 300 to 699, and `reason`. If
+ * the reply was wiped, is zeros, or has a key of more than 64 bytes, the writer has the error
+ * STUNP_BAD_ARGUMENT, and nothing is written. */
 STUNP_INLINED stunp_writer stunp_reply_error(const stunp_reply *reply, uint32_t code,
                                              const char *reason, uint8_t *out, size_t room);
 
 /* Ends the response of a writer: signs the response if the request was signed, and adds FINGERPRINT
  * if the request had it.
  *
- * Returns the length of the response, or the first error of any call with this writer, including
- * the errors of stunp_sign and stunp_add_fingerprint. */
+ * Returns the length of the response, or the first error of any call with this writer. Errors of
+ * this call:
+ *   STUNP_BAD_ARGUMENT  the reply was wiped, is zeros, or has a key of more than 64 bytes: wipe a
+ *                       reply only after its response is finished, because an unsigned response
+ *                       would be sent otherwise
+ * and then the errors of stunp_sign and stunp_add_fingerprint. */
 STUNP_USE_RESULT
 STUNP_INLINED int64_t stunp_reply_finish(const stunp_reply *reply, stunp_writer *answer);
 
-/* Overwrites a reply and the key that it contains. */
+/* Overwrites a reply and the key that it contains with zeros. The calls that answer a request
+ * refuse the reply from then on. */
 STUNP_INLINED void stunp_reply_wipe(stunp_reply *reply);
 
 /* ---- Connectivity checks of ICE
@@ -1964,7 +1994,8 @@ int64_t stunp_endpoint_client_new_with(stunp_endpoint_client *client, const stun
  *
  * Returns 0. Errors:
  *   STUNP_BAD_ARGUMENT  `size` is wrong, `seed` is null, only one of `name` and `password` is null,
- *                       or one of them is empty
+ *                       one of them is empty, or `understood` is null and `understood_count` is not
+ *                       0
  * and then the errors of stunp_endpoint_client_new_with. */
 STUNP_NOT_NULL(1, 2)
 STUNP_INLINED int64_t
@@ -2000,6 +2031,8 @@ STUNP_INLINED int64_t stunp_body_put(stunp_body *body, uint32_t type, const void
  * Returns 0, or the first error of any call with this body. You need not test the result, because
  * stunp_endpoint_client_request returns the error too. Errors:
  *   STUNP_NOT_ALLOWED       `type` is STUNP_XOR_PEER_ADDRESS: call stunp_body_add_peer
+ *   STUNP_BAD_ARGUMENT      the length of the body is above its room or above STUNP_BODY_MAX, or
+ *                           its buffer is null: only calls with a body may change its fields
  *   STUNP_BAD_ARGUMENT      `type` is above 65535
  *   STUNP_MESSAGE_TOO_LONG  the attributes would have more than STUNP_BODY_MAX bytes
  *   STUNP_BUFFER_TOO_SMALL  the attribute, with its header of 4 bytes and padding, does not fit
@@ -2070,11 +2103,13 @@ int64_t stunp_endpoint_client_request_with(stunp_endpoint_client *client, uint32
  * each further request. The pointer `request` may be null.
  *
  * The attributes of the body are tested one after the other. For the first attribute that is
- * refused, the call returns one of three errors of the list below: the second STUNP_BAD_ARGUMENT,
+ * refused, the call returns one of three errors of the list below: the third STUNP_BAD_ARGUMENT,
  * STUNP_NOT_ALLOWED, or the first STUNP_MESSAGE_TOO_LONG.
  *
  * Returns 0. Errors:
  *   the error of the body, if a call with this body has failed
+ *   STUNP_BAD_ARGUMENT         the length of the body is above its room or above STUNP_BODY_MAX, or
+ *                              its buffer is null
  *   STUNP_EMPTY_HANDLE         the handle is empty
  *   STUNP_WRONG_HANDLE         the handle has no client
  *   STUNP_BAD_ARGUMENT         `method` is above 4095
@@ -2642,6 +2677,18 @@ int64_t stunp_endpoint_release_0_3(void);
 static int64_t (*const stunp_endpoint_release_wanted)(void) __attribute__((used)) =
     stunp_endpoint_release_0_3;
 #endif
+
+/* The library is compiled with enumerations of the size of an int. */
+STUNP_ENUM_IS_INT(stunp_credentials);
+STUNP_ENUM_IS_INT(stunp_kind);
+STUNP_ENUM_IS_INT(stunp_drop);
+STUNP_ENUM_IS_INT(stunp_cause);
+STUNP_ENUM_IS_INT(stunp_ice_outcome);
+STUNP_ENUM_IS_INT(stunp_ice_candidate_kind);
+STUNP_ENUM_IS_INT(stunp_ice_consent_step);
+STUNP_ENUM_IS_INT(stunp_event_kind);
+STUNP_ENUM_IS_INT(stunp_result);
+STUNP_ENUM_IS_INT(stunp_ice_line);
 
 #if STUNP_INLINE_CALLS
 #include "stunp_endpoint_inline.h"

@@ -49,6 +49,7 @@ stunp_endpoint_server_new(stunp_endpoint_server *server,
         return STUNP_BAD_ARGUMENT;
     memcpy(&all, settings, settings->size);
     settings = &all;
+    if (settings->understood == NULL && settings->understood_count > 0) return STUNP_BAD_ARGUMENT;
     size_t software_length = settings->software == NULL ? 0 : strlen(settings->software);
     if (settings->credentials != STUNP_LONG_TERM) {
         if (settings->realm != NULL || settings->secret != NULL || settings->previous_secret != NULL
@@ -88,11 +89,12 @@ STUNP_INLINED void stunp_endpoint_users_free(stunp_endpoint_users *users) {
 }
 
 /* Copies the caller's struct to `all`, which has the size of this release. Returns whether the
- * struct has a user: a name, and a password that is not empty or, without a password, a key. */
+ * struct has a user: a name that is not empty, and a password that is not empty or, without a
+ * password, a key. */
 static inline bool stunp_is_found(const stunp_found_user *found, stunp_found_user *all) {
     if (!STUNP_HAS_SIZE(stunp_found_user, sha256_key, found->size)) return false;
     memcpy(all, found, found->size);
-    if (all->name == NULL) return false;
+    if (all->name == NULL || all->name_length == 0) return false;
     return all->password != NULL ? all->password[0] != 0
                                  : all->sha1_key != NULL || all->sha256_key != NULL;
 }
@@ -158,6 +160,21 @@ stunp_endpoint_server_receive_with_cause(const stunp_endpoint_server *server,
     return kind;
 }
 
+/* Returns whether a datagram has the same struct for its outcome as an earlier one. `last` is the
+ * highest address of the structs of earlier datagrams, so that datagrams whose structs are in the
+ * order of an array are not compared one by one. */
+static inline bool stunp_shares_outcome(const stunp_datagram *datagrams, size_t at,
+                                        uintptr_t *last) {
+    const uintptr_t own = (uintptr_t)datagrams[at].received;
+    if (own > *last) {
+        *last = own;
+        return false;
+    }
+    for (size_t i = 0; own != 0 && i < at; i++)
+        if ((uintptr_t)datagrams[i].received == own) return true;
+    return false;
+}
+
 STUNP_INLINED size_t
 stunp_endpoint_server_receive_many(const stunp_endpoint_server *server,
                                    const stunp_endpoint_users *users,
@@ -166,10 +183,15 @@ stunp_endpoint_server_receive_many(const stunp_endpoint_server *server,
                                    stunp_judged *judged) {
     stunp_received unread = STUNP_INIT(stunp_received);
     size_t used = 0, i;
+    uintptr_t last = 0;
     for (i = 0; i < count; i++) {
         const stunp_datagram *one = &datagrams[i];
         stunp_judged *told = &judged[i];
         stunp_received *received = one->received != NULL ? one->received : &unread;
+        told->kind = STUNP_BAD_ARGUMENT, told->cause = (stunp_cause)0;
+        told->offset = told->length = 0;
+        /* The outcome of the earlier datagram stays, so that its request is still answered. */
+        if (stunp_shares_outcome(datagrams, i, &last)) continue;
         told->kind = stunp_endpoint_server_receive_with_cause(
             server, users, one->bytes, one->length, &one->from, unix_seconds,
             room == 0 ? out : out + used, room - used, received, &told->cause);
@@ -177,8 +199,10 @@ stunp_endpoint_server_receive_many(const stunp_endpoint_server *server,
         told->length = told->kind == STUNP_ANSWER             ? received->length
                        : told->kind == STUNP_BUFFER_TOO_SMALL ? received->needed
                                                               : 0;
-        if (told->kind == STUNP_BUFFER_TOO_SMALL) break;
-        used += told->length;
+        /* An answer that does not fit into the whole buffer counts as judged, because it would not
+         * fit in a later call either. */
+        if (told->kind == STUNP_BUFFER_TOO_SMALL && used > 0) break;
+        if (told->kind == STUNP_ANSWER) used += told->length;
     }
     stunp_reply_wipe(&unread.reply);
     return i;
@@ -301,20 +325,38 @@ stunp_endpoint_server_cause_for(const stunp_endpoint_server *server, const stunp
     return cause;
 }
 
+/* The number in `integrity` of a reply whose responses are not signed. Only a reply of zeros has
+ * the number 0: one that was wiped, or that no call has written. */
+enum { STUNP_UNSIGNED_REPLY = 3 };
+
+/* Returns whether a reply has the data of a request. */
+static inline bool stunp_is_reply(const stunp_reply *reply) {
+    return reply->integrity >= STUNP_SHA1 && reply->integrity <= STUNP_UNSIGNED_REPLY
+           && reply->key_length <= sizeof reply->key;
+}
+
+/* Starts a response of a class. */
+static inline stunp_writer stunp_reply_write(const stunp_reply *reply, stunp_message_class answer,
+                                             uint8_t *out, size_t room) {
+    if (!stunp_is_reply(reply)) return stunp_write_on(STUNP_BAD_ARGUMENT, out, room);
+    return stunp_write(answer, reply->method, reply->id, out, room);
+}
+
 STUNP_INLINED stunp_writer stunp_reply_success(const stunp_reply *reply, uint8_t *out,
                                                size_t room) {
-    return stunp_write(STUNP_SUCCESS, reply->method, reply->id, out, room);
+    return stunp_reply_write(reply, STUNP_SUCCESS, out, room);
 }
 
 STUNP_INLINED stunp_writer stunp_reply_error(const stunp_reply *reply, uint32_t code,
                                              const char *reason, uint8_t *out, size_t room) {
-    stunp_writer answer = stunp_write(STUNP_ERROR, reply->method, reply->id, out, room);
+    stunp_writer answer = stunp_reply_write(reply, STUNP_ERROR, out, room);
     stunp_write_error(&answer, code, reason);
     return answer;
 }
 
 STUNP_INLINED int64_t stunp_reply_finish(const stunp_reply *reply, stunp_writer *answer) {
-    if (reply->integrity != 0)
+    if (answer->refusal == 0 && !stunp_is_reply(reply)) answer->refusal = STUNP_BAD_ARGUMENT;
+    if (reply->integrity != STUNP_UNSIGNED_REPLY)
         stunp_write_integrity(answer, (stunp_algorithm)reply->integrity, reply->key,
                               reply->key_length);
     if (reply->has_fingerprint) stunp_write_fingerprint(answer);
@@ -396,7 +438,8 @@ stunp_endpoint_client_new(stunp_endpoint_client *client,
     settings = &all;
     if (settings->seed == NULL
         || (settings->name == NULL) != (settings->password == NULL)
-        || (settings->name != NULL && (settings->name[0] == 0 || settings->password[0] == 0)))
+        || (settings->name != NULL && (settings->name[0] == 0 || settings->password[0] == 0))
+        || (settings->understood == NULL && settings->understood_count > 0))
         return STUNP_BAD_ARGUMENT;
     stunp_client_options options;
     options.initial = settings->initial, options.longest = settings->longest;
@@ -421,6 +464,16 @@ STUNP_INLINED void stunp_endpoint_client_free(stunp_endpoint_client *client) {
     if (client != NULL) stunp_endpoint_client_clear(client);
 }
 
+/* Returns the first error of a body, or STUNP_BAD_ARGUMENT if its fields are not those of a body:
+ * its attributes are not in its buffer. */
+static inline int64_t stunp_body_refusal(const stunp_body *body) {
+    if (body->refusal < 0) return body->refusal;
+    return body->length > body->room || body->length > STUNP_BODY_MAX
+                   || (body->bytes == NULL && body->room > 0)
+               ? STUNP_BAD_ARGUMENT
+               : 0;
+}
+
 STUNP_INLINED stunp_body stunp_body_on(uint8_t *bytes, size_t room) {
     stunp_body body = {bytes, room, 0, 0};
     return body;
@@ -428,6 +481,7 @@ STUNP_INLINED stunp_body stunp_body_on(uint8_t *bytes, size_t room) {
 
 STUNP_INLINED int64_t stunp_body_put(stunp_body *body, uint32_t type, const void *value,
                                      size_t length) {
+    body->refusal = stunp_body_refusal(body);
     if (body->refusal < 0) return body->refusal;
     size_t whole = 4 + (length + 3) / 4 * 4, left = STUNP_BODY_MAX - body->length;
     if (type > 65535) body->refusal = STUNP_BAD_ARGUMENT;
@@ -489,7 +543,8 @@ STUNP_INLINED int64_t stunp_endpoint_client_request(stunp_endpoint_client *clien
                                                     const stunp_body *body, uint64_t now,
                                                     uint64_t *request) {
     uint64_t unread;
-    if (body != NULL && body->refusal < 0) return body->refusal;
+    int64_t refusal = body == NULL ? 0 : stunp_body_refusal(body);
+    if (refusal < 0) return refusal;
     return stunp_endpoint_client_request_with(client, method, body == NULL ? NULL : body->bytes,
                                               body == NULL ? 0 : body->length, now,
                                               request == NULL ? &unread : request);
@@ -500,7 +555,8 @@ STUNP_INLINED int64_t stunp_endpoint_client_request_as(stunp_endpoint_client *cl
                                                        const stunp_request_options *options,
                                                        uint64_t now, uint64_t *request) {
     uint64_t unread;
-    if (body != NULL && body->refusal < 0) return body->refusal;
+    int64_t refusal = body == NULL ? 0 : stunp_body_refusal(body);
+    if (refusal < 0) return refusal;
     return stunp_endpoint_client_request_as_with(
         client, method, body == NULL ? NULL : body->bytes, body == NULL ? 0 : body->length, options,
         now, request == NULL ? &unread : request);

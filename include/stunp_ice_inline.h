@@ -13,7 +13,8 @@ STUNP_INLINED int64_t stunp_ice_checker_check_body(stunp_ice_checker *checker,
                                                    const stunp_body *body, uint8_t *out,
                                                    size_t room, stunp_ice_check *check) {
     stunp_ice_check unread;
-    if (body != NULL && body->refusal < 0) return body->refusal;
+    int64_t refusal = body == NULL ? 0 : stunp_body_refusal(body);
+    if (refusal < 0) return refusal;
     return stunp_ice_checker_check_body_with(checker, id, to, priority, nominate,
                                              body == NULL ? NULL : body->bytes,
                                              body == NULL ? 0 : body->length, out, room,
@@ -117,7 +118,8 @@ STUNP_INLINED int64_t stunp_ice_checks_receive(stunp_ice_checks *checks,
                                                size_t room, stunp_ice_received *received,
                                                stunp_ice_ended *ended) {
     /* The higher bit of the class is 1 in responses (RFC 8489, section 5). */
-    bool is_response = length >= STUNP_HEADER_LENGTH && (bytes[0] & 1) != 0;
+    bool is_response =
+        length >= STUNP_HEADER_LENGTH && length <= PTRDIFF_MAX && (bytes[0] & 1) != 0;
     stunp_ice_outstanding *stored = is_response ? stunp_ice_stored(checks, bytes + 8) : NULL;
     stunp_address source = *from;
     if (!stunp_ice_is_address(at)) {
@@ -359,7 +361,7 @@ STUNP_INLINED stunp_ice_line stunp_ice_candidate_read(stunp_ice_candidate *candi
                                                       const char *line, size_t length) {
     const char front[] = "candidate:";
     stunp_ice_candidate read;
-    stunp_ice_word rest = {line, length}, words[8];
+    stunp_ice_word rest = {line, length <= PTRDIFF_MAX ? length : 0}, words[8];
     uint32_t component, priority;
     memset(candidate, 0, sizeof *candidate);
     memset(&read, 0, sizeof read);

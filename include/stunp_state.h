@@ -407,6 +407,9 @@ typedef enum stunp_ending {
                              * valid under the key that the client had before */
     STUNP_RESEND_SHA256 = 5 /* like STUNP_RESEND_SHA1, but for MESSAGE-INTEGRITY-SHA256 */
 } stunp_ending;
+STUNP_ENUM_IS_INT(stunp_transport);
+STUNP_ENUM_IS_INT(stunp_naming);
+STUNP_ENUM_IS_INT(stunp_ending);
 
 /* The retransmission timeouts of a request (section 6.2.1), in nanoseconds.
  *

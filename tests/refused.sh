@@ -1,10 +1,10 @@
 #!/bin/sh
 # Tests what the headers make a compiler and a linker refuse: exchanged arguments, a result that
-# nobody looks at, a null output, a length that is not that of the array, and a program that was
-# compiled against another release. STUN_C is the archive of stunp.h, STUN_STATE that of
-# stunp_state.h, and STUN_ENDPOINT that of stunp_endpoint.h (without it, STUN_STATE). LIBRARIES has
-# what they need in addition. Without a C compiler nothing is tested, and without an archive nothing
-# is linked.
+# nobody looks at, a null output, a length that is not that of the array, enumerations that are not
+# ints, and a program that was compiled against another release. STUN_C is the archive of stunp.h,
+# STUN_STATE that of stunp_state.h, and STUN_ENDPOINT that of stunp_endpoint.h (without it,
+# STUN_STATE). LIBRARIES has what they need in addition. Without a C compiler nothing is tested, and
+# without an archive nothing is linked.
 set -eu
 cd "$(dirname "$0")"
 cc=${CC:-cc}
@@ -88,6 +88,25 @@ warns nonnull nonnull \
 warns nonnull nonnull \
     'stunp_ice_checker checker = {0}; got = stunp_ice_checker_new(&checker, NULL);'
 warns access stringop-over 'got = stunp_begin(STUNP_REQUEST, STUNP_BINDING, key, 12, out, 21);'
+
+# A program whose enumerations have another size than those of the library does not compile, in any
+# version of the two languages.
+if $cc -fshort-enums -fsyntax-only -x c /dev/null 2>/dev/null; then
+    printf '#include "stunp_state.h"\n#include "stunp_endpoint.h"\n' >"$scratch/enums.c"
+    for standard in c99 c11 c17; do
+        $cc -std=$standard -I../include -fsyntax-only "$scratch/enums.c"
+        for name in stunp_message_class stunp_kind stunp_transport; do
+            wants "$name.*without.-\\?_\\?f\\?short[-_]enums" \
+                $cc -std=$standard -fshort-enums -I../include -fsyntax-only "$scratch/enums.c"
+        done
+    done
+    for standard in c++11 c++17; do
+        there "${CXX-}" c++ || continue
+        wants 'stunp_kind must be an int: compile without -fshort-enums' \
+            ${CXX:-c++} -std=$standard -fshort-enums -I../include -fsyntax-only -x c++ \
+            "$scratch/enums.c"
+    done
+fi
 
 # links OPTION..: the right program, linked and run.
 links() {

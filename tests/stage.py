@@ -361,7 +361,7 @@ class Stage(Endpoints):
 
     def endpoint_build(self):
         """C does not say which text is too long, and has no set of no algorithms and no lifetime of
-        0."""
+        0. It refuses an empty realm."""
         if not self.settings:
             raise Words("no settings")
         wanted = self.settings
@@ -371,6 +371,8 @@ class Stage(Endpoints):
                              wanted["secret"], wanted["previous"], wanted["types"],
                              wanted["seconds"], wanted["algorithms"], wanted["names"],
                              int(wanted["binding"]), int(wanted["requires"]))
+        if not wanted["realm"] and answer == -7:
+            raise Left("endpoint server build")
         if answer == 0:
             self.built = dict(wanted)
         names = {0: "", -17: "OutOfMemory", -7: "NonceLifetime", -9: "RealmTooLong"}

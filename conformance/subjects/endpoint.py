@@ -71,7 +71,7 @@ def redirection(reply, source, places):
     answer = changed("add_error", bytes(out[:length]), c_uint32(300), b"Try Alternate")
     for octets, port in chosen_for(source, places):
         answer = changed("add_address", answer, c_uint32(ALTERNATE_SERVER), octets, c_uint32(port))
-    if reply.integrity:
+    if reply.integrity in (1, 2):  # 3: the response is not signed
         key = bytes(reply.key[:reply.key_length])
         answer = changed("sign", answer, c_uint32(reply.integrity), key)
     return changed("add_fingerprint", answer) if reply.has_fingerprint else answer

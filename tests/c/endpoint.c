@@ -130,8 +130,16 @@ static void settings_in_order(void) {
     stunp_endpoint_server_free(&server);
     settings = good, settings.realm = "";
     want("empty", server.is_full, false);
-    want("empty realm", stunp_endpoint_server_new(&server, &settings), 0);
-    stunp_endpoint_server_free(&server);
+    want("empty realm", stunp_endpoint_server_new(&server, &settings), STUNP_BAD_ARGUMENT);
+    settings.software = "\xff";
+    want("before a text", stunp_endpoint_server_new(&server, &settings), STUNP_BAD_ARGUMENT);
+    want("its twin", stunp_endpoint_server_new_with(&server, NULL, 0, NULL, 0, secret, secret, false,
+         NULL, 0, 0, 0, 0, false, false), STUNP_BAD_ARGUMENT);
+    settings = good, settings.understood_count = 1;
+    want("no types", stunp_endpoint_server_new(&server, &settings), STUNP_BAD_ARGUMENT);
+    settings.credentials = STUNP_NO_CREDENTIALS, settings.realm = NULL, settings.secret = NULL;
+    want("no types", stunp_endpoint_server_new(&server, &settings), STUNP_BAD_ARGUMENT);
+    want("empty", server.is_full, false);
     settings = good, settings.nonce_seconds = 30, settings.software = "example 1.0";
     longest[763] = 0, settings.realm = longest;
     want("longest", stunp_endpoint_server_new(&server, &settings), 0);
@@ -190,7 +198,12 @@ static void users_in_order(void) {
     want("both", stunp_endpoint_users_add_keys(users, (const char *)name, 513, key, 16, key, 32),
          0);
     want("neither", stunp_endpoint_users_add_keys(users, (const char *)name, 513, NULL, 0, NULL,
-                                                  0), 0);
+                                                  0), STUNP_BAD_ARGUMENT);
+    want("one", stunp_endpoint_users_add_keys(users, (const char *)name, 513, NULL, 0, key, 32), 0);
+    want("no name", stunp_endpoint_users_add(users, "", 0, "p", 1), STUNP_BAD_ARGUMENT);
+    want("no name", stunp_endpoint_users_add(users, NULL, 0, "\xff", 1), STUNP_NOT_TEXT);
+    want("no name", stunp_endpoint_users_add_keys(users, NULL, 0, key, 16, key, 32),
+         STUNP_BAD_ARGUMENT);
     want("removed", stunp_endpoint_users_remove(users, (const char *)name, 513), 0);
     want("nobody", stunp_endpoint_users_remove(users, (const char *)name, 513), 0);
     want("no name", stunp_endpoint_users_remove(users, (const char *)&byte, 1), STUNP_NOT_TEXT);
@@ -520,12 +533,14 @@ static void want_batch(struct batch *batch, const struct realm *realm, size_t ro
         if (one->received != NULL) want_same_result(one->received, received);
         if (kind == STUNP_BUFFER_TOO_SMALL) {
             want("needed", (int64_t)told->length, (int64_t)received->needed);
-            break;
+            if (used > 0) break; /* else it does not fit into the whole buffer, and counts */
+            continue;
         }
         want("length", (int64_t)told->length, (int64_t)received->length);
         used += received->length;
     }
     want("done", (int64_t)done, (int64_t)i);
+    want("progress", done > 0 || batch->count == 0, true);
     want("the answers", memcmp(bytes, single, sizeof bytes), 0);
     /* The rest is unchanged. */
     for (i++; i < batch->count; i++) {
@@ -559,6 +574,22 @@ static void batches(void) {
     want("none", (int64_t)stunp_endpoint_server_receive_many(&realm.server, &realm.users, NULL, 0,
          NOW, NULL, 0, NULL), 0);
     free_realm(&realm);
+}
+
+/* The calls that answer a request refuse a reply that is not one, and write nothing. `good` started
+ * the response that the other reply finishes. */
+static void refuses_reply(const stunp_reply *good, const stunp_reply *reply) {
+    uint8_t kept[sizeof out];
+    stunp_writer started = stunp_reply_success(good, out, sizeof out);
+    memcpy(kept, out, sizeof out);
+    stunp_writer success = stunp_reply_success(reply, out, sizeof out);
+    want("no reply", stunp_written(&success), STUNP_BAD_ARGUMENT);
+    want("no reply", stunp_reply_finish(reply, &success), STUNP_BAD_ARGUMENT);
+    stunp_writer error = stunp_reply_error(reply, 486, "Quota", out, sizeof out);
+    want("no reply", stunp_written(&error), STUNP_BAD_ARGUMENT);
+    want("no reply", stunp_reply_finish(reply, &started), STUNP_BAD_ARGUMENT);
+    want("its length", (int64_t)started.length, STUNP_HEADER_LENGTH);
+    want_same("nothing", out, kept, sizeof out);
 }
 
 /* A request that the caller answers, and what the answer contains. */
@@ -600,6 +631,17 @@ static void replies(uint32_t algorithms, bool has_fingerprint) {
     want("no room", stunp_reply_finish(&reply, &small), STUNP_BUFFER_TOO_SMALL);
     stunp_writer wrong = stunp_reply_error(&reply, 299, "", out, sizeof out);
     want("no error", stunp_reply_finish(&reply, &wrong), STUNP_BAD_ARGUMENT);
+    refuses_reply(&reply, &received.reply);
+    stunp_reply longer = reply;
+    for (int length = 65; length < 256; length++) {
+        longer.key_length = (uint8_t)length;
+        refuses_reply(&reply, &longer);
+    }
+    longer = reply, longer.integrity = 4;
+    refuses_reply(&reply, &longer);
+    /* The first error of a writer stays its error. */
+    small = stunp_reply_error(&reply, 486, "Quota", out, 24);
+    want("no room", stunp_reply_finish(&received.reply, &small), STUNP_BUFFER_TOO_SMALL);
     free_realm(&realm);
 }
 

@@ -4,7 +4,8 @@ writes.
 The crates `stun_numbers`, `stun_handles`, `stun_c`, `stun_state` and `stun_c_endpoint` are exported
 as the others, but for what a caller in C keeps: a handle, with its pointer, which
 `capi/src/handle.rs` has by hand. Their `extern "C"` functions become plain ones, and `border.rs`
-has those that C calls, where a slice is a pointer and a length (`capi/src/passed.rs`).
+has those that C calls, where a slice is a pointer and a length (`capi/src/passed.rs`). They refuse
+a length that no slice can have.
 """
 import re
 import shutil
@@ -22,6 +23,10 @@ SIZES = [("IS_PROVED: bool = true;", "IS_PROVED: bool = false;"),
          (" EVENT_SIZE: usize = 80;", " EVENT_SIZE: usize = size_of::<Event>();"),
          (" OPTIONS_SIZE: usize = 64;",
           " OPTIONS_SIZE: usize = size_of::<RequestOptions>();")]
+# What a call writes if it fails, by the name of its parameter.
+FAILED = {"received": "received.fails()", "event": "event.fails()", "cause": "*cause = 0"}
+# What a call returns if a length is impossible, if that is no error: such a packet is not STUN.
+IMPOSSIBLE = {"stunp_is_stun": "0"}
 SLICES = {"&[u8]": ("*const u8", "read"), "&mut [u8]": ("*mut u8", "written"),
           "&[u16]": ("*const u16", "read"), "&mut [u16]": ("*mut u16", "written")}
 
@@ -30,7 +35,7 @@ def border_of(text, module):
     """The functions of a module that C calls, each of which hands on."""
     calls = ""
     for words, name, listed, answer in CALL.findall(text):
-        declared, handed = [], []
+        declared, handed, possible, failed = [], [], [], []
         for parameter in filter(None, (one.strip() for one in listed.split(","))):
             label, kind = re.split(r":\s*", parameter, maxsplit=1)
             if kind == "Global":
@@ -39,12 +44,17 @@ def border_of(text, module):
                 pointer, whole = SLICES[kind]
                 declared += [f"{label}: {pointer}", f"length_of_{label}: usize"]
                 handed.append(f"unsafe {{ {whole}({label}, length_of_{label}) }}")
+                possible.append(f"is_possible::<{kind[-4:].strip('[]& ')}>(length_of_{label})")
             else:
+                failed += [f"        {FAILED[label]};\n"] if label in FAILED else []
                 declared.append(f"{label}: {kind}")
                 handed.append(label)
+        refusal = IMPOSSIBLE.get(name, "Refusal::BadArgument.code()")
         calls += (f"{words}///\n/// # Safety\n///\n/// What is passed is as the header says.\n"
                   f'#[unsafe(no_mangle)]\npub unsafe extern "C" fn {name}({", ".join(declared)})'
                   f'{" -> " + answer if answer else ""} {{\n'
+                  + (f"    if !({' && '.join(possible)}) {{\n{''.join(failed)}"
+                     f"        return {refusal};\n    }}\n" if possible else "") +
                   f"    // SAFETY: the caller passes a pointer and a length of what it owns.\n"
                   f"    {module}::{name}({', '.join(handed)})\n}}\n\n")
     return calls
@@ -67,7 +77,9 @@ def write(out, exported, places, root):
               "use super::{stun_c, stun_c_endpoint, stun_state};\n"
               "use crate::handle::endpoint::EndpointHandle;\n"
               "use crate::handle::state::StateHandle;\n"
-              "use crate::kit::alloc::Global;\nuse crate::passed::{read, written};\n\n")
+              "use super::stun_numbers::refusal::Refusal;\n"
+              "use crate::kit::alloc::Global;\n"
+              "use crate::passed::{is_possible, read, written};\n\n")
     for crate in CRATES:
         source = root / "crates" / crate / "src"
         for path in sorted(source.rglob("*.rt")):

@@ -12,7 +12,8 @@ use Rattle.stun_numbers.specs.Refusals.{refusal_or}
 use Rattle.stun_numbers.specs.declared.refusal.Refusal.{Refusal}
 use Rattle.stun_c_endpoint.specs.Found.{judge_by_found, with_left}
 use Rattle.stun_c_endpoint.specs.Kept.{Judge}
-use Rattle.stun_c_endpoint.specs.Users.{added, keys_added, name_refusal, password_refusal}
+use Rattle.stun_c_endpoint.specs.Users.{added, keys_added, name_refusal, no_key_refusal}
+use Rattle.stun_c_endpoint.specs.Users.{password_refusal}
 use Rattle.stun_c_endpoint.specs.code.Found.{found_judge, found_user, key_user, named_user}
 use Rattle.stun_c_endpoint.specs.code.Found.{password_user}
 use Rattle.stun_c_endpoint.specs.declared.handle.endpoint.Kept.{Kept}
@@ -47,8 +48,9 @@ module _ (s : Settings) where
   judged_by_found name password false sha1 sha256 =
       let keys = keys_given (key_given 16 sha1) (key_given 32 sha256) in
       past (text_refusal name) _ _
-      (past (name_refusal name) (keys_added (table_of s) name keys) (named_user name keys)
-      (by_keys name keys))
+      (past (name_refusal name) _ _
+      (past (no_key_refusal sha1 sha256) (keys_added (table_of s) name keys) (named_user name keys)
+      (by_keys name keys)))
 
   pub judged_by_user : (name password : List ℕ) (has_password : Bool) (sha1 sha256 : List ℕ)
       (user : RegisteredUser) → found_user name password has_password sha1 sha256 ≡ Ok user

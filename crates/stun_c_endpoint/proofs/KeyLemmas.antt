@@ -1,6 +1,6 @@
 -- A key that is longer than a block of HMAC and its hash give the same digests (RFC 2104, section 2).
 use Rattle.std.proofs.Common.{◌≡◌, ◌≤◌, ℕ, ◌-◌, List, ◌++◌, Bool, true, false, length, take}
-use Rattle.std.proofs.Common.{refl, ◌∙◌, ap, arith, Some}
+use Rattle.std.proofs.Common.{refl, ◌∙◌, ap, arith, ltb-false, Option, Some, None}
 use Rattle.std.specs.Prelude.{cond, nat_lt, replicate}
 use Rattle.std.proofs.Math.Seq.{take-append_seam}
 use Rattle.sha1.specs.Sha1.{sha1, digest_bytes as sha1_bytes}
@@ -39,6 +39,16 @@ short-if a key false is = ap (λ b. cond b (hash_by a key) key) is
 short-again : (a : IntegrityAlgorithm) (key : List ℕ)
     → short_key (hash_by a) (short_key (hash_by a) key) ≡ short_key (hash_by a) key
 short-again a key = short-if a key (nat_lt 64 (length key)) refl
+
+block-if : (a : IntegrityAlgorithm) (key : List ℕ) (b : Bool) → nat_lt 64 (length key) ≡ b
+    → length (cond b (hash_by a key) key) ≤ 64
+block-if a key true is = hash-short a key
+block-if a key false is = ltb-false 64 (length key) is
+
+-- the key of a reply is not longer than its block
+pub told_key_short : (o : Option IntegrityAlgorithm) (key : List ℕ) → key_length_told o key ≤ 64
+told_key_short None key = omega arith
+told_key_short (Some a) key = block-if a key (nat_lt 64 (length key)) refl
 
 -- ---- digests
 

@@ -1,5 +1,5 @@
 -- What answers a request that is handed out signs under the key of its user.
-use Rattle.std.proofs.Common.{◌≡◌, ◌≤◌, inl, inr, ℕ, zero, suc, ℤ, pos, List, [], ◌++◌, Bool, true}
+use Rattle.std.proofs.Common.{◌≡◌, ◌≤◌, ◌⊎◌, inl, inr, ℕ, zero, suc, ℤ, pos, List, [], ◌++◌, Bool, true}
 use Rattle.std.proofs.Common.{false, Option, Some, None, length, take, refl, sym, ◌∙◌, ap, subst}
 use Rattle.std.proofs.Common.{arith, Ok, Err}
 use Rattle.std.specs.Prelude.{cond, drop, min, nat_abs, nat_lt, replicate, IsSome}
@@ -44,13 +44,13 @@ use Rattle.stun_client.proofs.DowngradeLemmas.{decides}
 use Rattle.stun_numbers.specs.Algorithms.{algorithm_number, algorithm_numbered}
 use Rattle.stun_numbers.specs.declared.refusal.Refusal.TheVariants.{BufferTooSmall}
 use Rattle.stun_c_endpoint.specs.Kept.{Judge, by_realm, by_users, openly}
-use Rattle.stun_c_endpoint.specs.Replies.{SignsForUser, SignsUnder, key_of_user}
+use Rattle.stun_c_endpoint.specs.Replies.{IsReply, SignsForUser, SignsUnder, key_of_user}
 use Rattle.stun_c_endpoint.specs.Told as told
 use Rattle.stun_c_endpoint.specs.Told.{AnyOutcome, IsTold, NAME_PLACE, NAME_ROOM, at_front}
 use Rattle.stun_c_endpoint.specs.Told.{number_unless, of_realm, of_users, outcome_by}
 use Rattle.stun_c_endpoint.specs.Told.{reply_told, told_of}
 use Rattle.stun_c_endpoint.specs.declared.received.Received.{Received}
-use Rattle.stun_c_endpoint.proofs.KeyLemmas.{told_key_verifies}
+use Rattle.stun_c_endpoint.proofs.KeyLemmas.{told_key_short, told_key_verifies}
 
 -- ---- with long-term credentials
 
@@ -233,7 +233,7 @@ signs_under : (y : TheReply) (by : IntegrityAlgorithm) (key : List ℕ)
     → SignsUnder key (reply_told y)
 signs_under y by key is = (
   by,
-  ap (λ o. algorithm_numbered (told.integrity_number (told.integrity_of o))) is ∙ numbered-back by,
+  ap (λ o. algorithm_numbered (told.reply_integrity (told.integrity_of o))) is ∙ numbered-back by,
   λ page is_open short.
       ap (λ o. verified_algorithm (with_integrity page by
       (take (told.key_length_told (told.integrity_of o) (told.key_of o))
@@ -325,6 +325,32 @@ request_told (told.indicated client m) result out out' r r' t two =
     let wrong : 3 ≡ 2 = ap nat_abs (sym t.number ∙ two) in absurd (omega (arith, wrong))
 request_told (told.responded m) result out out' r r' t two =
     let wrong : 4 ≡ 2 = ap nat_abs (sym t.number ∙ two) in absurd (omega (arith, wrong))
+
+-- a reply is not one of zeros
+number_told : (o : Option IntegrityAlgorithm)
+    → (told.reply_integrity o ≡ 1) ⊎ ((told.reply_integrity o ≡ 2) ⊎ (told.reply_integrity o ≡ 3))
+number_told None = inr (inr refl)
+number_told (Some Sha1) = inl refl
+number_told (Some Sha256) = inr (inl refl)
+
+is_reply : (y : TheReply) → IsReply (reply_told y)
+is_reply y = record {
+  integrity = number_told (told.integrity_of y.ending.signature);
+  short = told_key_short (told.integrity_of y.ending.signature) (told.key_of y.ending.signature);
+}
+
+has_reply : (client : Option ClientSeen) (y : TheReply) (r : Received)
+    → IsReply (told_of (told.requested client y) r).reply
+has_reply None y r = is_reply y
+has_reply (Some client) y r = is_reply y
+
+pub reply_told_whole : (judge : Judge) (from : SocketAddr) (seconds : ℕ) (bytes : List ℕ)
+    (result : ℤ) (out out' : List ℕ) (r r' : Received)
+    → IsTold (outcome_by judge from seconds bytes) result out out' r r' → result ≡ pos 2
+    → IsReply r'.reply
+reply_told_whole judge from seconds bytes result out out' r r' t two =
+    let one = request_told (outcome_by judge from seconds bytes) result out out' r r' t two in
+    subst (λ (x : Received). IsReply x.reply) (sym one.3) (has_reply one.0 one.1 r)
 
 pub reply_signs : (judge : Judge) (from : SocketAddr) (seconds : ℕ) (bytes : List ℕ) (result : ℤ)
     (out out' : List ℕ) (r r' : Received)

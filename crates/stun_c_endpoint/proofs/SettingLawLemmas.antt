@@ -129,13 +129,14 @@ is_server : (g : Given) → given_refusal g ≡ None → IsServerOf g (server_gi
 unfolding given_refusal
 is_server g h =
     let none = none_holds _ _ _ h in
-    let range_and_secret = neither (is_out_of_range g) (is_wrong_secret g) none.0 in
-    let algorithms = neither (nat_lt 3 g.algorithms) _ range_and_secret.0 in
+    let range_and_others = neither (is_out_of_range g) _ none.0 in
+    let secret_and_realm = neither (is_wrong_secret g) (length g.realm == 0) range_and_others.1 in
+    let algorithms = neither (nat_lt 3 g.algorithms) _ range_and_others.0 in
     let names = neither (nat_lt 2 g.anonymous_username) _ algorithms.1 in
     let times = neither (nat_lt (nonce_seconds g.nonce_seconds) 30)
     (nat_lt LONGEST_NONCE_LIFETIME (nonce_seconds g.nonce_seconds)) names.1 in
     let secrets = neither (is_repeated g.secret) (is_wrong_previous g.secret g.previous_secret)
-    range_and_secret.1 in
+    secret_and_realm.0 in
     let texts = both (is_utf8 g.realm) (is_utf8 g.software)
     (not_false (is_utf8 g.realm && is_utf8 g.software) none.1) in
     let lengths = neither (nat_lt 763 (length g.realm)) (nat_lt 763 (length g.software)) none.2 in
@@ -157,6 +158,7 @@ is_server g h =
       answers_binding = refl;
       requires_fingerprint = refl;
       text = texts.0;
+      some = apart (length g.realm) 0 secret_and_realm.1;
       short = ltb-false 763 (length g.realm) lengths.0;
     }
 

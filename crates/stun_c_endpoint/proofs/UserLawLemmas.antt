@@ -2,7 +2,7 @@
 use Rattle.std.proofs.Common.{◌≡◌, ◌∙◌, ℕ, pos, List, Bool, true, false, length}
 use Rattle.std.proofs.Common.{Option, Some, None, refl, sym, ap, inl, inr, true≢false}
 use Rattle.std.proofs.Common.{if◌then◌else◌, eqb-true, ◌&&◌, option_and_then, option_map}
-use Rattle.std.specs.Prelude.{◌≢◌, ◌==◌, Result, Ok, Err, cond}
+use Rattle.std.specs.Prelude.{◌≢◌, ◌⊎◌, ◌==◌, Result, Ok, Err, cond, nat_lt}
 use Rattle.std.specs.Cmp.Lexicographic.{nat_list_cmp_total}
 use Rattle.std.specs.FinMap as fin
 use Rattle.std.specs.Str.{is_utf8}
@@ -31,8 +31,8 @@ use Rattle.stun_c_endpoint.specs.Kept.{Judge, by_realm, judge_of}
 use Rattle.stun_c_endpoint.specs.Replies.{key_of_user}
 use Rattle.stun_c_endpoint.specs.UserLaws.{HasKey, HasUser, IsKeyPassed, IsName}
 use Rattle.stun_c_endpoint.specs.Users.{LeavesTable, LeavesTableOr, added, adding, adding_keys}
-use Rattle.stun_c_endpoint.specs.Users.{keys_added, name_refusal, password_refusal, removing}
-use Rattle.stun_c_endpoint.specs.Users.{table_for, unless_refused}
+use Rattle.stun_c_endpoint.specs.Users.{keys_added, name_refusal, no_key_refusal, password_refusal}
+use Rattle.stun_c_endpoint.specs.Users.{removing, table_for, unless_refused}
 use Rattle.stun_c_endpoint.specs.declared.handle.endpoint.Kept.{Kept}
 use Rattle.stun_c_endpoint.specs.declared.handle.endpoint.Kept.TheVariants as kind
 use Rattle.stun_c_endpoint.proofs.NumberLemmas.{at_most, done, is_not_so, is_so, no_refusal}
@@ -64,6 +64,31 @@ ok_past : (o : Option Refusal) (x : Result Kept Refusal) (k : Kept)
 ok_past None x k h = h
 ok_past (Some why) x k h = cc
 
+-- a name that is accepted is not empty, and not too long
+named-if : (name : List ℕ) (b : Bool) → is_utf8 name ≡ true → (length name == 0) ≡ b
+    → (if b then Some r.BadArgument
+    else if nat_lt 513 (length name) then Some r.TextTooLong else None) ≡ None → IsName name
+named-if name true text is h = cc
+named-if name false text is h = record {
+  text = text;
+  some = not_none (length name) is;
+  short = at_most 513 (length name) r.TextTooLong h;
+}
+
+named : (name : List ℕ) → is_utf8 name ≡ true → name_refusal name ≡ None → IsName name
+named name text h = named-if name (length name == 0) text refl h
+
+key-if : (sha1 sha256 : List ℕ) (a b : Bool) → (length sha1 == 0) ≡ a → (length sha256 == 0) ≡ b
+    → (if a && b then Some r.BadArgument else None) ≡ None
+    → (length sha1 ≢ 0) ⊎ (length sha256 ≢ 0)
+key-if sha1 sha256 false b is other h = inl (not_none (length sha1) is)
+key-if sha1 sha256 true false is other h = inr (not_none (length sha256) other)
+key-if sha1 sha256 true true is other h = cc
+
+some_key : (sha1 sha256 : List ℕ) → no_key_refusal sha1 sha256 ≡ None
+    → (length sha1 ≢ 0) ⊎ (length sha256 ≢ 0)
+some_key sha1 sha256 h = key-if sha1 sha256 (length sha1 == 0) (length sha256 == 0) refl refl h
+
 -- a user who is added has a name and a password
 accepted : (name password : List ℕ) (table : Kept) (before now : Option Kept)
     → LeavesTableOr (unless_refused name password table) (pos 0) before now
@@ -73,10 +98,7 @@ accepted name password table before now h =
     let two = passed (name_refusal name) _ before now one.1 in
     let three = passed (password_refusal password) (Ok table) before now two.1 in (
       done before now (Some table) three.1,
-      record {
-        text = (texts name password one.0).0;
-        short = at_most 513 (length name) r.TextTooLong two.0;
-      },
+      named name (texts name password one.0).0 two.0,
       not_none (length password) (is_not_so (length password == 0) r.BadArgument three.0),
     )
 
@@ -211,19 +233,18 @@ stored u name sha1 sha256 (Ok x) (Err why) before now one other h = no_refusal 0
 pub by_keys : (u : RealmSeen) (name sha1 sha256 : List ℕ) (before now : Option Kept)
     → LeavesTableOr (adding_keys name sha1 sha256 (kind.Users u)) (pos 0) before now
     → (t : RealmSeen) × (keys : StoredKeys) × (now ≡ Some (kind.Users t)) × IsName name
-    × IsKeyPassed 16 sha1 keys.sha1 × IsKeyPassed 32 sha256 keys.sha256
+    × ((length sha1 ≢ 0) ⊎ (length sha256 ≢ 0)) × IsKeyPassed 16 sha1 keys.sha1 × IsKeyPassed 32 sha256 keys.sha256
     × HasUser u.registered t.registered name (stored_key keys)
 by_keys u name sha1 sha256 before now h =
     let one = passed (text_refusal name) _ before now h in
     let two = passed (name_refusal name) _ before now one.1 in
-    let three = stored u name sha1 sha256 _ _ before now refl refl two.1 in (
+    let keyed = passed (no_key_refusal sha1 sha256) _ before now two.1 in
+    let three = stored u name sha1 sha256 _ _ before now refl refl keyed.1 in (
       three.0,
       three.1,
       three.2,
-      record {
-        text = is_so (is_utf8 name) r.NotText one.0;
-        short = at_most 513 (length name) r.TextTooLong two.0;
-      },
+      named name (is_so (is_utf8 name) r.NotText one.0) two.0,
+      some_key sha1 sha256 keyed.0,
       three.3.0,
       three.3.1,
       three.4,

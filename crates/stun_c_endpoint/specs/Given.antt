@@ -67,10 +67,11 @@ is_out_of_range g =
 abbrev pub is_wrong_secret : Given → Bool
 is_wrong_secret g = is_repeated g.secret || is_wrong_previous g.secret g.previous_secret
 
--- why no server is built: the first reason that applies
+-- why no server is built: the first reason that applies. A realm without bytes is one that was never
+-- set
 unfoldable pub given_refusal : Given → Option Refusal
 given_refusal g =
-    if is_out_of_range g || is_wrong_secret g then Some BadArgument
+    if is_out_of_range g || (is_wrong_secret g || (length g.realm == 0)) then Some BadArgument
     else if not (is_utf8 g.realm && is_utf8 g.software) then Some NotText
     else if nat_lt TEXT_LIMIT (length g.realm) || nat_lt TEXT_LIMIT (length g.software)
     then Some TextTooLong

@@ -1,6 +1,6 @@
 -- Whose key signs the response to a request, as a caller in C sees it (RFC 8489, sections 9.1.4 and
 -- 9.2.4).
-use Rattle.std.specs.Prelude.{◌≡◌, ◌≤◌, ℕ, List, take, Option, Some, None}
+use Rattle.std.specs.Prelude.{◌≡◌, ◌≤◌, ◌⊎◌, ℕ, List, take, Option, Some, None}
 use Rattle.std.specs.FinMap as map
 use Rattle.stun_judging.specs.Registered.{key_at}
 use Rattle.stun_base.specs.Algorithm.{digest_length}
@@ -28,6 +28,12 @@ told_name r = take r.name_length r.name
 -- the key that a reply has
 abbrev pub reply_key : Reply → List ℕ
 reply_key y = take y.key_length y.key
+
+-- a reply that the calls accept: it has the number 1 or 2 of an integrity attribute, or 3 because its
+-- responses are not signed, and its key fits into one block of HMAC. A reply of zeros is not one
+pub record IsReply (y : Reply) : Type 0 where
+  pub integrity : (y.integrity ≡ 1) ⊎ ((y.integrity ≡ 2) ⊎ (y.integrity ≡ 3))
+  pub short : y.key_length ≤ 64
 
 -- each response that is signed with what a reply has verifies under a key, with the algorithm that
 -- the reply names. A response has room for the attribute, or is not signed (section 5)

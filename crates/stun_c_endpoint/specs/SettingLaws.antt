@@ -42,8 +42,8 @@ abbrev pub IsTextPassed : List ℕ → Option (List ℕ) → Type 0
 IsTextPassed text kept =
     ((length text ≡ 0) × (kept ≡ None)) ⊎ ((length text ≢ 0) × (kept ≡ Some text))
 
--- a server has the settings that were passed, and they are safe: its secret may be random, and its
--- nonces last at least 30 seconds and at most 30 days
+-- a server has the settings that were passed, and they are safe: its secret may be random, its
+-- nonces last at least 30 seconds and at most 30 days, and its realm is not empty
 pub record IsServerOf (g : Given) (s : Settings) : Type 0 where
   pub realm : s.realm ≡ g.realm
   pub algorithms : AreNumbered g.algorithms s.algorithms
@@ -61,6 +61,7 @@ pub record IsServerOf (g : Given) (s : Settings) : Type 0 where
   pub answers_binding : s.answers_binding ≡ g.answers_binding
   pub requires_fingerprint : s.requires_fingerprint ≡ g.requires_fingerprint
   pub text : is_utf8 g.realm ≡ true
+  pub some : length g.realm ≢ 0
   pub short : length g.realm ≤ 763
 
 -- a server without a realm has the settings that were passed

@@ -155,6 +155,12 @@ abbrev pub integrity_number : Option IntegrityAlgorithm → ℕ
 integrity_number None = 0
 integrity_number (Some algorithm) = algorithm_number algorithm
 
+-- the number of the integrity attribute of a reply: 3 if responses are not signed, because a reply
+-- that was wiped, or that no call has written, has the number 0
+abbrev pub reply_integrity : Option IntegrityAlgorithm → ℕ
+reply_integrity None = 3
+reply_integrity (Some algorithm) = algorithm_number algorithm
+
 -- the integrity attribute and the key with which a response is signed
 abbrev pub integrity_of : Option Signature → Option IntegrityAlgorithm
 integrity_of by = option_map (λ (s : Signature). s.algorithm) by
@@ -185,7 +191,7 @@ reply_told y = record {
   key = block_told (integrity_of y.ending.signature) (key_of y.ending.signature);
   method = y.method;
   key_length = key_length_told (integrity_of y.ending.signature) (key_of y.ending.signature);
-  integrity = integrity_number (integrity_of y.ending.signature);
+  integrity = reply_integrity (integrity_of y.ending.signature);
   has_fingerprint = y.ending.has_fingerprint;
 }
 

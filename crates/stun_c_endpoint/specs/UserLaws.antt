@@ -8,9 +8,10 @@ use Rattle.stun_judging.specs.Registered.{Registered, key_at}
 use Rattle.stun_base.specs.declared.keys.algorithm.IntegrityAlgorithm.{IntegrityAlgorithm}
 use Rattle.stun_endpoint.specs.ShortTerm.{Keys}
 
--- a name that a message can carry (section 14.3)
+-- a name of a user that a message can carry (section 14.3)
 pub record IsName (name : List ℕ) : Type 0 where
   pub text : is_utf8 name ≡ true
+  pub some : length name ≢ 0
   pub short : length name ≤ 513
 
 -- a table differs from another one by one user: that user has this key for each algorithm of the

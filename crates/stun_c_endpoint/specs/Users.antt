@@ -1,5 +1,5 @@
 -- The table of users after a call, and why a call fails (RFC 8489, section 9.2.2).
-use Rattle.std.specs.Prelude.{◌≡◌, ◌==◌, ℕ, ℤ, pos, List, length, nat_lt, if◌then◌else◌, Option}
+use Rattle.std.specs.Prelude.{◌≡◌, ◌==◌, ◌&&◌, ℕ, ℤ, pos, List, length, nat_lt, if◌then◌else◌, Option}
 use Rattle.std.specs.Prelude.{Some, None}
 use Rattle.std.specs.Prelude.{Result, Ok, Err}
 use Rattle.std.specs.FinMap as map
@@ -20,13 +20,21 @@ use Rattle.stun_c_endpoint.specs.declared.handle.endpoint.Kept.TheVariants.{Chec
 use Rattle.stun_c_endpoint.specs.declared.handle.endpoint.Kept.TheVariants.{Open, ShortTerm}
 use Rattle.stun_c_endpoint.specs.declared.handle.endpoint.Kept.TheVariants.{Client, ShortTermUsers}
 
--- no USERNAME carries a longer name (section 14.3)
+-- a user has a name, because a client without one could not be told from others, and no USERNAME
+-- carries a longer name (section 14.3)
 abbrev pub name_refusal : List ℕ → Option Refusal
-name_refusal name = if nat_lt USERNAME_LIMIT (length name) then Some TextTooLong else None
+name_refusal name =
+    if length name == 0 then Some BadArgument
+    else if nat_lt USERNAME_LIMIT (length name) then Some TextTooLong else None
 
 -- a password without bytes is one that was never set
 abbrev pub password_refusal : List ℕ → Option Refusal
 password_refusal password = if length password == 0 then Some BadArgument else None
+
+-- a user without any key could never send a request that is accepted
+abbrev pub no_key_refusal : List ℕ → List ℕ → Option Refusal
+no_key_refusal sha1 sha256 =
+    if (length sha1 == 0) && (length sha256 == 0) then Some BadArgument else None
 
 -- a table with a user with a password
 abbrev pub added : RealmSeen → List ℕ → List ℕ → RealmSeen
@@ -59,13 +67,14 @@ keys_added u name (Ok keys) = Ok (Users (record u {
 }))
 keys_added u name (Err refusal) = Err refusal
 
--- a table after a user with stored keys is added: a name that is not a text or is too long fails,
--- and then a key of another length
+-- a table after a user with stored keys is added: a name that is not a text, is empty or is too long
+-- fails, and then two missing keys, and then a key of another length
 abbrev pub with_stored : RealmSeen → List ℕ → List ℕ → List ℕ → Result Kept Refusal
 with_stored u name sha1 sha256 =
     refusal_or (text_refusal name)
     (refusal_or (name_refusal name)
-    (keys_added u name (keys_given (key_given 16 sha1) (key_given 32 sha256))))
+    (refusal_or (no_key_refusal sha1 sha256)
+    (keys_added u name (keys_given (key_given 16 sha1) (key_given 32 sha256)))))
 
 -- only users of a realm have stored keys
 abbrev pub adding_keys : List ℕ → List ℕ → List ℕ → Kept → Result Kept Refusal

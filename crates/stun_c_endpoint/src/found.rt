@@ -10,7 +10,7 @@ ghost use Rattle.stun_c_endpoint.specs.code.Found.{password_user};
 use crate::handle::endpoint::Kept;
 use crate::received::{RECEIVED_SIZE, Received};
 use crate::server::{LAST_SECOND, tell};
-use crate::users::{check_name, check_password};
+use crate::users::{check_keys, check_name, check_password};
 use std::alloc::Global;
 use stun_endpoint::server::Server;
 use stun_endpoint::unix_time::UnixTime;
@@ -31,7 +31,8 @@ pub struct Found<'f> {
 }
 
 /// Converts a user with a password. Fails with `NotText` if a text is not UTF-8, then with
-/// `TextTooLong` if the name is too long, then with `BadArgument` if the password is empty.
+/// `TextTooLong` if the name is too long, then with `BadArgument` if the name or the password is
+/// empty.
 fn by_password<'f>(name: &'f [u8], password: &'f [u8]) -> Result<FoundUser<'f>, Refusal>
     ensures { result ≡ password_user name.entry.now password.entry.now }
 {
@@ -43,12 +44,14 @@ fn by_password<'f>(name: &'f [u8], password: &'f [u8]) -> Result<FoundUser<'f>, 
 }
 
 /// Converts a user with stored keys. Fails with `NotText` if the name is not UTF-8, then with
-/// `TextTooLong` if the name is too long, then with `BadArgument` if a key has a wrong length.
+/// `TextTooLong` if the name is too long, then with `BadArgument` if the name is empty, both keys
+/// are missing or a key has a wrong length.
 fn by_keys<'f>(name: &'f [u8], sha1: &[u8], sha256: &[u8]) -> Result<FoundUser<'f>, Refusal>
     ensures { result ≡ key_user name.entry.now sha1.now sha256.now }
 {
     let name = text(name)?;
     check_name(name)?;
+    check_keys(sha1, sha256)?;
     let keys = keys_of(sha1, sha256)?;
     Ok(FoundUser::with_keys(name, keys))
 }

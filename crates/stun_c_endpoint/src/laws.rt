@@ -8,7 +8,7 @@ ghost use Rattle.stun_c_endpoint.specs.Causes.{IsCause, cause_at, cause_number, 
 ghost use Rattle.stun_c_endpoint.specs.Causes.{long_term_and_users};
 ghost use Rattle.stun_c_endpoint.specs.Extended.{AddsFurther, ExtendsTo, is_kept_from_checks};
 ghost use Rattle.stun_c_endpoint.specs.Kept.{Judge, agent_in, judge_of};
-ghost use Rattle.stun_c_endpoint.specs.Replies.{SignsForUser};
+ghost use Rattle.stun_c_endpoint.specs.Replies.{IsReply, SignsForUser};
 ghost use Rattle.stun_c_endpoint.specs.Told.{IsTold, RECEIVED_SIZE, outcome_by};
 ghost use Rattle.stun_c_endpoint.specs.declared.handle.endpoint.Kept.{Kept};
 ghost use Rattle.stun_c_endpoint.specs.declared.received.Received.{Received};
@@ -27,6 +27,15 @@ pub fn replies_sign_for_the_user()
         (out out' : List ℕ) (r r' : Received)
         → IsTold (outcome_by judge from seconds bytes) result out out' r r'
         → result ≡ pos 2 → SignsForUser judge r' }
+{}
+
+/// States that if a call returns `STUNP_IS_REQUEST`, the calls that answer the request accept the
+/// data in `reply`: it differs from a reply of zeros, and the key has at most 64 bytes.
+pub fn replies_are_not_empty()
+    ensures { (judge : Judge) (from : SocketAddr) (seconds : ℕ) (bytes : List ℕ) (result : ℤ)
+        (out out' : List ℕ) (r r' : Received)
+        → IsTold (outcome_by judge from seconds bytes) result out out' r r'
+        → result ≡ pos 2 → IsReply r'.reply }
 {}
 
 /// If `stunp_ice_checker_set_role` has set the controlling role of the agent in a handle,

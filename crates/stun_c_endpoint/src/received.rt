@@ -13,7 +13,8 @@ ghost use Rattle.stun_c_endpoint.specs.Told.{integrity_number, requested, told_i
 ghost use Rattle.stun_c_endpoint.specs.Told.{told_open_request, told_request};
 ghost use Rattle.stun_c_endpoint.specs.Told.{told_signed_indication};
 ghost use Rattle.stun_c_endpoint.specs.Lookups.{lookup_told, named_told};
-ghost use Rattle.stun_c_endpoint.specs.Told.{block_told, hash_by, key_length_told, reply_told};
+ghost use Rattle.stun_c_endpoint.specs.Told.{block_told, hash_by, key_length_told};
+ghost use Rattle.stun_c_endpoint.specs.Told.{reply_integrity, reply_told};
 ghost use Rattle.stun_c_endpoint.specs.Told.{responded, told_of};
 ghost use Rattle.stun_judging.specs.Named.{named_seen};
 
@@ -38,6 +39,9 @@ pub const NAME_ROOM: usize = 513;
 /// The size of `Received` in bytes, which its first field must state.
 pub const RECEIVED_SIZE: usize = 648;
 
+/// The number in `Reply::integrity` if responses are not signed.
+const UNSIGNED: u8 = 3;
+
 /// The kind of an outcome or an event after a call that failed.
 pub const FAILED: u32 = 7;
 
@@ -55,7 +59,8 @@ pub struct Reply {
     /// The length of the key.
     pub key_length: u8,
     /// The integrity attribute of a response: 1 is MESSAGE-INTEGRITY, 2 is
-    /// MESSAGE-INTEGRITY-SHA256, and 0 is none.
+    /// MESSAGE-INTEGRITY-SHA256, and 3 is none. It is 0 only in a reply that was wiped, or that no
+    /// call has written.
     pub integrity: u8,
     /// Whether a response ends with FINGERPRINT.
     pub has_fingerprint: bool,
@@ -121,6 +126,17 @@ pub fn integrity_number(algorithm: Option<IntegrityAlgorithm>) -> u8
         Some(IntegrityAlgorithm::Sha1) => 1,
         Some(IntegrityAlgorithm::Sha256) => 2,
         None => 0,
+    }
+}
+
+/// Returns the number that represents the integrity attribute of a reply, which is never 0, so that
+/// a reply of zeros is not taken for one.
+fn reply_integrity(algorithm: Option<IntegrityAlgorithm>) -> u8
+    ensures { result ≡ reply_integrity algorithm }
+{
+    match algorithm {
+        Some(algorithm) => integrity_number(Some(algorithm)),
+        None => UNSIGNED,
     }
 }
 
@@ -203,7 +219,7 @@ impl Reply {
             key,
             method: reply.method().value(),
             key_length: block.length,
-            integrity: integrity_number(reply.integrity()),
+            integrity: reply_integrity(reply.integrity()),
             has_fingerprint: reply.has_fingerprint(),
         }
     }

@@ -253,7 +253,7 @@ impl<'a> Given<'a> {
     fn make_server(&self, alloc: Global) -> Result<Server<Global>, Refusal>
         ensures { Builds (given_refusal self.now) (server_given self.now) result }
     {
-        if self.is_out_of_range() || self.is_wrong_secret() {
+        if self.is_out_of_range() || self.is_wrong_secret() || self.realm.is_empty() {
             return Err(Refusal::BadArgument);
         }
         let realm = text(self.realm)?;

@@ -4,8 +4,8 @@ ghost use Rattle.std.specs.Prelude.{◌≡◌, IfErr, IfOk, MatchResult, Ok, Err
 ghost use Rattle.stun_handles.specs.Numbers.{done_answer};
 ghost use Rattle.stun_numbers.specs.Refusals.{refusal_or};
 ghost use Rattle.stun_c_endpoint.specs.Users.{LeavesTable, LeavesTableOr, adding, adding_keys};
-ghost use Rattle.stun_c_endpoint.specs.Users.{name_refusal, password_refusal, removing, table_for};
-ghost use Rattle.stun_c_endpoint.specs.Users.{with_stored};
+ghost use Rattle.stun_c_endpoint.specs.Users.{name_refusal, no_key_refusal, password_refusal};
+ghost use Rattle.stun_c_endpoint.specs.Users.{removing, table_for, with_stored};
 ghost use Rattle.stun_c_endpoint.specs.declared.handle.endpoint.Kept.TheVariants as kind;
 
 pub mod laws;
@@ -21,13 +21,26 @@ use stun_numbers::refusal::Refusal;
 use stun_numbers::text::text;
 use stun_types::limits::USERNAME_LIMIT;
 
-/// Checks that a name fits into USERNAME. Fails with `TextTooLong` if the name has more than 513
-/// bytes.
+/// Checks that a name is not empty and fits into USERNAME. Fails with `BadArgument` if the name is
+/// empty, and with `TextTooLong` if it has more than 513 bytes.
 pub fn check_name(name: &str) -> Result<(), Refusal>
     ensures { result ≡ refusal_or (name_refusal name.now) (Ok tt) }
 {
+    if name.is_empty() {
+        return Err(Refusal::BadArgument);
+    }
     if name.len() > USERNAME_LIMIT {
         return Err(Refusal::TextTooLong);
+    }
+    Ok(())
+}
+
+/// Checks that a user has a key. Fails with `BadArgument` if both keys are empty.
+pub fn check_keys(sha1: &[u8], sha256: &[u8]) -> Result<(), Refusal>
+    ensures { result ≡ refusal_or (no_key_refusal sha1.now sha256.now) (Ok tt) }
+{
+    if sha1.is_empty() && sha256.is_empty() {
+        return Err(Refusal::BadArgument);
     }
     Ok(())
 }
@@ -121,6 +134,7 @@ fn add_keys(
 {
     let name = text(name)?;
     check_name(name)?;
+    check_keys(sha1, sha256)?;
     let keys = keys_of(sha1, sha256)?;
     Ok(users.add_with_keys(copied(alloc, name)?, keys)?)
 }

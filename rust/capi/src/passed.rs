@@ -3,6 +3,13 @@
 
 use core::slice;
 
+/// Returns `true` if a slice can have this length: its values have at most `isize::MAX` bytes. A
+/// program that passes the -1 of a `recv` that failed passes a greater length. The call then fails,
+/// and reads nothing at the pointer.
+pub const fn is_possible<T>(length: usize) -> bool {
+    length <= isize::MAX as usize / size_of::<T>()
+}
+
 /// Returns the slice that a call reads.
 ///
 /// # Safety

@@ -11,7 +11,7 @@ use Rattle.stun_handles.specs.Keys.{key_given, keys_given}
 use Rattle.stun_numbers.specs.Refusals.{refusal_or}
 use Rattle.stun_numbers.specs.declared.refusal.Refusal.{Refusal}
 use Rattle.stun_c_endpoint.specs.Kept.{Judge, by_realm}
-use Rattle.stun_c_endpoint.specs.Users.{name_refusal, password_refusal}
+use Rattle.stun_c_endpoint.specs.Users.{name_refusal, no_key_refusal, password_refusal}
 
 -- a user with a password, unless the texts are refused
 abbrev pub password_user : List ℕ → List ℕ → Result RegisteredUser Refusal
@@ -30,7 +30,8 @@ abbrev pub key_user : List ℕ → List ℕ → List ℕ → Result RegisteredUs
 key_user name sha1 sha256 =
     refusal_or (text_refusal name)
     (refusal_or (name_refusal name)
-    (named_user name (keys_given (key_given 16 sha1) (key_given 32 sha256))))
+    (refusal_or (no_key_refusal sha1 sha256)
+    (named_user name (keys_given (key_given 16 sha1) (key_given 32 sha256)))))
 
 -- the one of these two that was passed
 abbrev pub found_user : List ℕ → List ℕ → Bool → List ℕ → List ℕ → Result RegisteredUser Refusal

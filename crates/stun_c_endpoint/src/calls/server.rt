@@ -36,7 +36,8 @@ use stun_numbers::refusal::Refusal;
 ///
 /// - `FullHandle`: the handle is not empty.
 /// - `BadArgument`: `algorithms` is above 3, `anonymous_username` is above 2, the nonce lifetime is
-///   below 30 seconds or above 30 days, a secret is one repeated byte, or both secrets are equal.
+///   below 30 seconds or above 30 days, a secret is one repeated byte, both secrets are equal, or
+///   the realm is empty.
 /// - `NotText`: the realm or SOFTWARE is not UTF-8.
 /// - `TextTooLong`: the realm or SOFTWARE has more than 763 bytes.
 /// - `OutOfMemory`: an allocation failed.
@@ -348,8 +349,9 @@ pub extern "C" fn stunp_endpoint_server_identify_own(
 /// - `WrongHandle`: the handle has something other than a server with long-term credentials.
 /// - `NotText`: the name or the password is not UTF-8.
 /// - `TextTooLong`: the name has more than 513 bytes.
-/// - `BadArgument`: the password is empty, a key has a wrong length, `received.size` is wrong,
-///   `unix_seconds` is too large, or `from` is not an IPv4 or IPv6 address.
+/// - `BadArgument`: the name or the password is empty, both keys are missing, a key has a wrong
+///   length, `received.size` is wrong, `unix_seconds` is too large, or `from` is not an IPv4 or IPv6
+///   address.
 /// - `OutOfMemory`: an allocation failed.
 /// - `BufferTooSmall`: the response does not fit into `out`. Its length is then in
 ///   `received.needed`.

@@ -68,8 +68,8 @@ pub extern "C" fn stunp_endpoint_users_clear(alloc: Global, users: &mut Endpoint
 /// password are accepted.
 ///
 /// Fails with `NotText` if the name or the password is not UTF-8, then with `TextTooLong` if the
-/// name has more than 513 bytes, then with `BadArgument` if the password is empty, then with
-/// `OutOfMemory`.
+/// name has more than 513 bytes, then with `BadArgument` if the name or the password is empty, then
+/// with `OutOfMemory`.
 #[unsafe(no_mangle)]
 pub extern "C" fn stunp_endpoint_users_add(
     alloc: Global,
@@ -95,7 +95,8 @@ pub extern "C" fn stunp_endpoint_users_add(
 /// fails with `WrongHandle`.
 ///
 /// Fails with `NotText` if the name is not UTF-8, then with `TextTooLong` if the name has more than
-/// 513 bytes, then with `BadArgument` if a key has a wrong length, then with `OutOfMemory`.
+/// 513 bytes, then with `BadArgument` if the name is empty, both keys are missing or a key has a
+/// wrong length, then with `OutOfMemory`.
 #[unsafe(no_mangle)]
 pub extern "C" fn stunp_endpoint_users_add_keys(
     alloc: Global,

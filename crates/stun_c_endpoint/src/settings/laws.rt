@@ -13,8 +13,8 @@ ghost use Rattle.stun_endpoint.specs.Settings.{Settings};
 /// that were passed. There is one call for servers with long-term credentials (`realm`), one for
 /// servers with short-term credentials (`short_term`), and one for servers without credentials
 /// (`open`). The call for long-term credentials creates no server if a secret is one repeated byte,
-/// if the previous secret is equal to the secret, or if the nonce lifetime is less than 30 seconds
-/// or more than 30 days.
+/// if the previous secret is equal to the secret, if the nonce lifetime is less than 30 seconds or
+/// more than 30 days, or if the realm is empty.
 pub fn servers_are_made_as_asked_for()
     ensures realm { (g : Given) (now : Option Kept) → MakesServer g (pos 0) now
         → (s : Settings) × (now ≡ Some (kind.Server s)) × IsServerOf g s }

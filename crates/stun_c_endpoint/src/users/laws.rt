@@ -1,6 +1,6 @@
 //! Laws about a table of users after a call on it. They do nothing when they run.
 
-ghost use Rattle.std.specs.Prelude.{◌≡◌, ◌≢◌, ℕ, pos, List, Option, Some, None, Ok, Err, true, false};
+ghost use Rattle.std.specs.Prelude.{◌≡◌, ◌≢◌, ◌⊎◌, ℕ, pos, List, Option, Some, None, Ok, Err, true, false};
 ghost use Rattle.std.specs.Prelude.{length, if◌then◌else◌};
 ghost use Rattle.std.specs.FinMap as map;
 ghost use Rattle.stun_judging.specs.Algorithms.{contains};
@@ -25,9 +25,9 @@ use stun_base::algorithm::IntegrityAlgorithm;
 
 /// States which keys a table has for a user whom a call has added. The server verifies the user's
 /// requests, and signs its responses to them, with one of these keys. The keys are made from the
-/// name, the realm and the password (`password`), or are the keys that were passed (`keys`). With
-/// short-term credentials, the key is the password itself (`short_term`). All other users have the
-/// keys that they had before.
+/// name, the realm and the password (`password`), or are the keys that were passed, of which there is
+/// at least one (`keys`). With short-term credentials, the key is the password itself
+/// (`short_term`). No name is empty. All other users have the keys that they had before.
 pub fn users_have_the_keys_that_were_passed()
     ensures password { (u : RealmSeen) (name password : List ℕ) (before now : Option Kept)
         → LeavesTableOr (adding name password (kind.Users u)) (pos 0) before now
@@ -37,7 +37,7 @@ pub fn users_have_the_keys_that_were_passed()
     ensures keys { (u : RealmSeen) (name sha1 sha256 : List ℕ) (before now : Option Kept)
         → LeavesTableOr (adding_keys name sha1 sha256 (kind.Users u)) (pos 0) before now
         → (t : RealmSeen) × (keys : StoredKeys) × (now ≡ Some (kind.Users t)) × IsName name
-        × IsKeyPassed 16 sha1 keys.sha1 × IsKeyPassed 32 sha256 keys.sha256
+        × ((length sha1 ≢ 0) ⊎ (length sha256 ≢ 0)) × IsKeyPassed 16 sha1 keys.sha1 × IsKeyPassed 32 sha256 keys.sha256
         × HasUser u.registered t.registered name (stored_key keys) }
     ensures short_term { (u : Keys) (name password : List ℕ) (before now : Option Kept)
         → LeavesTableOr (adding name password (kind.ShortTermUsers u)) (pos 0) before now

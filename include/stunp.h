@@ -123,7 +123,8 @@
  *
  * If you pass a length above PTRDIFF_MAX, such as the -1 of a recv that failed, a call of the
  * exported library fails with STUNP_BAD_ARGUMENT before it tests for any other error, and reads and
- * writes nothing there; stunp_is_stun returns 0. The proved archives leave this to you.
+ * writes nothing there; stunp_is_stun returns 0. The proved archives do so for the length of a
+ * message or a packet that a call reads, and leave all other lengths to you.
  *
  * Test a result with `< 0` or `> 0`, or compare it with the value that you expect. An error is not
  * 0, so `if (stunp_verify(..))` would accept every forgery. If you need only yes or no, call

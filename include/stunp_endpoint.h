@@ -340,7 +340,8 @@
  *
  * If you pass a length above PTRDIFF_MAX, such as the -1 of a recv that failed, a call of the
  * exported library fails with STUNP_BAD_ARGUMENT before it tests for any other error, and reads and
- * writes nothing there. The proved archives leave this to you.
+ * writes nothing there. The proved archives do so for the length of a datagram, and leave all other
+ * lengths to you.
  *
  * The library does not overwrite passwords and keys before it frees them. If an attacker may read
  * memory that was freed, use an allocator that overwrites each block (stunp_set_memory of stunp.h,

@@ -64,6 +64,7 @@ use keys::{userhash_of_texts, write_key};
 use request::{LONGEST_REQUEST, signed_request};
 use stun_base::attribute_type::AttributeType;
 use stun_numbers::algorithm::algorithm_number;
+use stun_numbers::passed::is_impossible;
 use stun_numbers::refusal::Refusal;
 use stun_types::message::Message;
 use value::attribute_place;
@@ -75,6 +76,9 @@ use walk::Cursor;
 pub extern "C" fn stunp_parse(message: &[u8]) -> i64
     ensures { result ≡ parse_answer message.now }
 {
+    if is_impossible(message) {
+        return Refusal::BadArgument.code();
+    }
     match Message::from_bytes(message) {
         Ok(_) => 0,
         Err(error) => Refusal::from(error).code(),
@@ -87,6 +91,9 @@ pub extern "C" fn stunp_parse(message: &[u8]) -> i64
 pub extern "C" fn stunp_verify(message: &[u8], key: &[u8]) -> i64
     ensures { result ≡ verify_answer message.now key.now }
 {
+    if is_impossible(message) {
+        return Refusal::BadArgument.code();
+    }
     match verdict(message, key) {
         Ok(algorithm) => i64::from(algorithm_number(algorithm)),
         Err(refusal) => refusal.code(),
@@ -293,6 +300,9 @@ pub extern "C" fn stunp_read_header(bytes: &[u8], header: &mut Header) -> i64
     ensures answer { result ≡ header_answer bytes.now }
     ensures written { header.new ≡ header_after (header_refusal bytes.now) bytes.now header.old }
 {
+    if is_impossible(bytes) {
+        return Refusal::BadArgument.code();
+    }
     header::read_header(bytes, header)
 }
 
@@ -301,6 +311,9 @@ pub extern "C" fn stunp_read_header(bytes: &[u8], header: &mut Header) -> i64
 pub extern "C" fn stunp_class(message: &[u8]) -> i64
     ensures { result ≡ class_answer message.now }
 {
+    if is_impossible(message) {
+        return Refusal::BadArgument.code();
+    }
     reading::class(message)
 }
 
@@ -309,6 +322,9 @@ pub extern "C" fn stunp_class(message: &[u8]) -> i64
 pub extern "C" fn stunp_method(message: &[u8]) -> i64
     ensures { result ≡ method_answer message.now }
 {
+    if is_impossible(message) {
+        return Refusal::BadArgument.code();
+    }
     reading::method(message)
 }
 
@@ -317,6 +333,9 @@ pub extern "C" fn stunp_method(message: &[u8]) -> i64
 pub extern "C" fn stunp_id(message: &[u8], out: &mut [u8]) -> i64
     ensures { WritesWithin (id_of_message message.now) out.old result out.new }
 {
+    if is_impossible(message) {
+        return Refusal::BadArgument.code();
+    }
     reading::id(message, out)
 }
 
@@ -338,6 +357,9 @@ pub extern "C" fn stunp_next(
         (refusal message.now)
         (next_member (attribute_place place) message.now) value_length.old }
 {
+    if is_impossible(message) {
+        return Refusal::BadArgument.code();
+    }
     reading::next(message, attribute_place(place), kind, value_length)
 }
 
@@ -365,6 +387,9 @@ pub extern "C" fn stunp_walk(
     ensures refused { IfSome (cursor_refusal cursor.old message.now)
         (λ _. cursor.new ≡ cursor.old) }
 {
+    if is_impossible(message) {
+        return Refusal::BadArgument.code();
+    }
     walk::walk(message, cursor, kind, value_length)
 }
 
@@ -378,6 +403,9 @@ pub extern "C" fn stunp_find(message: &[u8], kind: u32, value_length: &mut usize
         (finding_refusal kind message.now)
         (first_of kind (visible message.now)) value_length.old }
 {
+    if is_impossible(message) {
+        return Refusal::BadArgument.code();
+    }
     reading::find(message, kind, value_length)
 }
 
@@ -386,6 +414,9 @@ pub extern "C" fn stunp_find(message: &[u8], kind: u32, value_length: &mut usize
 pub extern "C" fn stunp_error_code(message: &[u8]) -> i64
     ensures { result ≡ error_answer message.now }
 {
+    if is_impossible(message) {
+        return Refusal::BadArgument.code();
+    }
     reading::error_code(message)
 }
 
@@ -398,6 +429,9 @@ pub extern "C" fn stunp_xor_mapped_address(message: &[u8], out: &mut [u8], port:
         (length out.old))
         (address_in message.now) port.old }
 {
+    if is_impossible(message) {
+        return Refusal::BadArgument.code();
+    }
     reading::mapped_address(message, out, port)
 }
 
@@ -417,6 +451,9 @@ pub extern "C" fn stunp_read_xor_address(
         (within_room (octets_at message.now (attribute_place place)) (length out.old))
         (address_at message.now (attribute_place place)) port.old }
 {
+    if is_impossible(message) {
+        return Refusal::BadArgument.code();
+    }
     reading::address_at(message, attribute_place(place), out, port)
 }
 
@@ -437,6 +474,9 @@ pub extern "C" fn stunp_read_address(
         (length out.old))
         (address_at message.now (attribute_place place)) port.old }
 {
+    if is_impossible(message) {
+        return Refusal::BadArgument.code();
+    }
     reading::plain_at(message, attribute_place(place), out, port)
 }
 
@@ -448,6 +488,9 @@ pub extern "C" fn stunp_read_number(message: &[u8], place: usize, number: &mut u
     ensures number { number.new ≡ sized_after (sized_at message.now (attribute_place place))
         number.old }
 {
+    if is_impossible(message) {
+        return Refusal::BadArgument.code();
+    }
     number::number_at(message, attribute_place(place), number)
 }
 
@@ -460,6 +503,9 @@ pub extern "C" fn stunp_read_text(message: &[u8], place: usize, text_length: &mu
     ensures text_length { text_length.new
         ≡ text_length_after (text_at message.now (attribute_place place)) text_length.old }
 {
+    if is_impossible(message) {
+        return Refusal::BadArgument.code();
+    }
     value::read_text(message, attribute_place(place), text_length)
 }
 
@@ -472,6 +518,9 @@ pub extern "C" fn stunp_read_types(message: &[u8], place: usize, types: &mut [u1
     ensures types { types.new ≡ held_after (types_at message.now (attribute_place place))
         types.old }
 {
+    if is_impossible(message) {
+        return Refusal::BadArgument.code();
+    }
     value::read_types(message, attribute_place(place), types)
 }
 
@@ -482,6 +531,9 @@ pub extern "C" fn stunp_read_types(message: &[u8], place: usize, types: &mut [u1
 pub extern "C" fn stunp_check_fingerprint(message: &[u8]) -> i64
     ensures { result ≡ fingerprint_answer message.now }
 {
+    if is_impossible(message) {
+        return Refusal::BadArgument.code();
+    }
     fingerprint::check(message)
 }
 
@@ -503,6 +555,9 @@ pub extern "C" fn stunp_unknown_types(message: &[u8], known: &[u16], types: &mut
     ensures types { types.new ≡ types_after (known_refusal message.now known.now)
         (unknown_of message.now known.now) types.old }
 {
+    if is_impossible(message) {
+        return Refusal::BadArgument.code();
+    }
     unknown::types(message, known, types)
 }
 
@@ -513,6 +568,9 @@ pub extern "C" fn stunp_unknown_types(message: &[u8], known: &[u16], types: &mut
 pub extern "C" fn stunp_refuse_unknown(request: &[u8], known: &[u16], out: &mut [u8]) -> i64
     ensures { WritesWithin (unknown_made request.now known.now) out.old result out.new }
 {
+    if is_impossible(request) {
+        return Refusal::BadArgument.code();
+    }
     unknown::refuse(request, known, out)
 }
 
@@ -523,6 +581,9 @@ pub extern "C" fn stunp_is_stun(packet: &[u8]) -> i64
     ensures yes { (result ≡ pos 1) ↔ IsStunPacket packet.now }
     ensures no { (result ≡ pos 1) ⊎ (result ≡ pos 0) }
 {
+    if is_impossible(packet) {
+        return 0;
+    }
     framing::is_stun_packet(packet)
 }
 
@@ -533,6 +594,9 @@ pub extern "C" fn stunp_is_stun(packet: &[u8]) -> i64
 pub extern "C" fn stunp_next_frame(bytes: &[u8]) -> i64
     ensures { result ≡ wanted_number (length bytes.now) (frame_of bytes.now) }
 {
+    if is_impossible(bytes) {
+        return Refusal::BadArgument.code();
+    }
     framing::next_frame(bytes)
 }
 
@@ -542,6 +606,9 @@ pub extern "C" fn stunp_next_frame(bytes: &[u8]) -> i64
 pub extern "C" fn stunp_next_packet_frame(bytes: &[u8]) -> i64
     ensures { result ≡ wanted_number (length bytes.now) (packet_frame_of bytes.now) }
 {
+    if is_impossible(bytes) {
+        return Refusal::BadArgument.code();
+    }
     framing::next_packet_frame(bytes)
 }
 
@@ -551,6 +618,9 @@ pub extern "C" fn stunp_next_packet_frame(bytes: &[u8]) -> i64
 pub extern "C" fn stunp_next_turn_frame(bytes: &[u8]) -> i64
     ensures { result ≡ wanted_number (length bytes.now) (turn_frame_of bytes.now) }
 {
+    if is_impossible(bytes) {
+        return Refusal::BadArgument.code();
+    }
     framing::next_turn_frame(bytes)
 }
 
@@ -582,6 +652,9 @@ pub extern "C" fn stunp_read_channel_data(
     ensures data_length { data_length.new
         ≡ set_by_data (channel_refusal bytes.now) (stated_data bytes.now) data_length.old }
 {
+    if is_impossible(bytes) {
+        return Refusal::BadArgument.code();
+    }
     turn::read_channel_data(bytes, channel, data_length)
 }
 
@@ -590,6 +663,9 @@ pub extern "C" fn stunp_read_channel_data(
 pub extern "C" fn stunp_channel_number(message: &[u8]) -> i64
     ensures { result ≡ channel_number_answer message.now }
 {
+    if is_impossible(message) {
+        return Refusal::BadArgument.code();
+    }
     turn::channel_number(message)
 }
 
@@ -598,5 +674,8 @@ pub extern "C" fn stunp_channel_number(message: &[u8]) -> i64
 pub extern "C" fn stunp_requested_transport(message: &[u8]) -> i64
     ensures { result ≡ transport_answer message.now }
 {
+    if is_impossible(message) {
+        return Refusal::BadArgument.code();
+    }
     turn::requested_transport(message)
 }

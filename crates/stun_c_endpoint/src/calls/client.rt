@@ -18,6 +18,7 @@ use crate::handle::endpoint::EndpointHandle;
 use std::alloc::Global;
 use stun_handles::address::Address;
 use stun_handles::answers;
+use stun_numbers::passed::is_impossible;
 use stun_numbers::refusal::Refusal;
 
 /// Creates a client of the server at the address `server`. `seed` is 32 random bytes. If the name
@@ -160,6 +161,9 @@ pub extern "C" fn stunp_endpoint_client_receive_with(
     ensures { HearsAs (client_in client.old.kept) from.now message.now now result why.old why.new
         client.old.kept client.new.kept }
 {
+    if is_impossible(message) {
+        return Refusal::BadArgument.code();
+    }
     let Some(mut kept) = client.take(alloc) else {
         return Refusal::EmptyHandle.code();
     };

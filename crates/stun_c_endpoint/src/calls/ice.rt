@@ -21,6 +21,7 @@ use crate::ice::writing::write_of;
 use std::alloc::Global;
 use stun_handles::address::Address;
 use stun_handles::answers;
+use stun_numbers::passed::is_impossible;
 use stun_numbers::refusal::Refusal;
 
 /// Creates an ICE agent with the credentials of both sides: username fragments and passwords.
@@ -308,6 +309,9 @@ pub extern "C" fn stunp_ice_checker_receive_with(
         checker.old.kept checker.new.kept }
 {
     received.fails();
+    if is_impossible(message) {
+        return Refusal::BadArgument.code();
+    }
     let Some(mut kept) = checker.take(alloc) else {
         return Refusal::EmptyHandle.code();
     };

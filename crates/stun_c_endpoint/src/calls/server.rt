@@ -17,6 +17,7 @@ use crate::{caused, server};
 use std::alloc::Global;
 use stun_handles::address::Address;
 use stun_handles::answers;
+use stun_numbers::passed::is_impossible;
 use stun_numbers::refusal::Refusal;
 
 /// Creates a server with long-term credentials. `secret` is 32 random bytes, from which the server
@@ -221,6 +222,9 @@ pub extern "C" fn stunp_endpoint_server_receive_own(
     ensures users { users.new.kept ≡ users.old.kept }
 {
     received.fails();
+    if is_impossible(message) {
+        return Refusal::BadArgument.code();
+    }
     let Some(kept) = server.take(alloc) else {
         return Refusal::EmptyHandle.code();
     };
@@ -265,6 +269,9 @@ pub extern "C" fn stunp_endpoint_server_receive_with_cause_own(
 {
     received.fails();
     *cause = 0;
+    if is_impossible(message) {
+        return Refusal::BadArgument.code();
+    }
     let Some(kept) = server.take(alloc) else {
         return Refusal::EmptyHandle.code();
     };
@@ -323,6 +330,9 @@ pub extern "C" fn stunp_endpoint_server_identify_own(
     ensures server { server.new.kept ≡ server.old.kept }
 {
     received.fails();
+    if is_impossible(message) {
+        return Refusal::BadArgument.code();
+    }
     let Some(kept) = server.take(alloc) else {
         return Refusal::EmptyHandle.code();
     };
@@ -376,6 +386,9 @@ pub extern "C" fn stunp_endpoint_server_resume_own(
     ensures server { server.new.kept ≡ server.old.kept }
 {
     received.fails();
+    if is_impossible(message) {
+        return Refusal::BadArgument.code();
+    }
     let Some(kept) = server.take(alloc) else {
         return Refusal::EmptyHandle.code();
     };
@@ -423,6 +436,9 @@ pub extern "C" fn stunp_endpoint_server_cause_own(
     ensures server { server.new.kept ≡ server.old.kept }
     ensures users { users.new.kept ≡ users.old.kept }
 {
+    if is_impossible(message) {
+        return Refusal::BadArgument.code();
+    }
     let Some(kept) = server.take(alloc) else {
         return Refusal::EmptyHandle.code();
     };

@@ -6,10 +6,9 @@ may cite `specs/code/`, and so may private functions.
 Each module that a file of specs or proofs declares has a file.
 
 Run at the top of the repository. Prints each definition in the wrong room, with its file and line
-and a definition that cites it, and each module without a file, then a count a crate.
+and a definition that cites it, and each module without a file.
 """
 
-import collections
 import glob
 import os
 import re
@@ -52,11 +51,8 @@ def main():
     for line in missing:
         print(line)
     wrong = len(missing)
-    counts = collections.Counter()
     for read in repository.files.values():
-        crate = read.module.split(".")[1]
         for definition in read.definitions:
-            counts[(crate, is_code(definition))] += 1
             if is_code(definition) and definition in because:
                 wrong += 1
                 citing = because[definition]
@@ -66,9 +62,6 @@ def main():
             elif not is_code(definition) and definition not in because:
                 wrong += 1
                 print("%s is in no public clause: move it to specs/code/" % place(definition))
-    for crate in sorted({name for name, _ in counts}):
-        in_specs, in_code = counts[(crate, False)], counts[(crate, True)]
-        print("%-12s specs %3d  specs/code %3d" % (crate, in_specs, in_code))
     in_wrong = "%d in the wrong room or missing" % wrong
     print("rooms: %s" % (in_wrong if wrong else "each definition in its room"))
     return 1 if wrong else 0

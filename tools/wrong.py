@@ -56,12 +56,8 @@ def edits_of(crate):
     return sorted((WRONG / crate).glob("*.edit"))
 
 
-def with_edits():
-    return [crate for crate in crates.lines() if edits_of(crate)]
-
-
 def every_edit():
-    return [edit for crate in with_edits() for edit in edits_of(crate)]
+    return [edit for crate in crates.lines() for edit in edits_of(crate)]
 
 
 def name_of(edit):
@@ -264,18 +260,16 @@ def try_changed(found):
 
 def look():
     """Prints which edits cannot be made, and returns the status."""
-    count = wrong = 0
-    for crate in with_edits():
-        for edit in edits_of(crate):
-            count += 1
-            try:
-                edited(edit, crates.TOP / "crates" / crate)
-                law_of(edit)
-            except (ValueError, OSError, TypeError) as error:
-                wrong += 1
-                print(f"{edit.relative_to(crates.TOP)}:1: this edit cannot be made: {error}: "
-                      "write it for the file as it is")
-    print(f"wrong: {count} edits looked at, {wrong} cannot be made")
+    wrong = 0
+    for edit in every_edit():
+        try:
+            edited(edit, crates.TOP / "crates" / edit.parent.name)
+            law_of(edit)
+        except (ValueError, OSError, TypeError) as error:
+            wrong += 1
+            print(f"{edit.relative_to(crates.TOP)}:1: this edit cannot be made: {error}: "
+                  "write it for the file as it is")
+    print(f"wrong: {len(every_edit())} edits looked at, {wrong} cannot be made")
     return 1 if wrong else 0
 
 

@@ -95,7 +95,9 @@ RELEASE = {
     "plants": "python3 tests/export/export_plants.py; python3 tests/refusals_plants.py; "
               "python3 conformance/plants.py",
     "least": "tools/rust.sh --export; tests/export/least.sh",
-    "bare": "tests/bare.sh --test bookworm trixie",
+    "bare": "tests/bare.sh --test bookworm trixie; tests/bare.sh --test --newest trixie",
+    # The sizes of the libraries for C, by the compiler of a release.
+    "sizes": "tools/rust.sh --build; tools/rust_c.sh strict sizes",
     "package": "tests/package.sh",
     # The proved archives, with what strangers send to each of their calls for ten minutes.
     "archives": "tools/archives.sh; tests/check.sh; "

@@ -2,7 +2,7 @@
 """Plants wrong rules in export.py and wrong lines in the library under the sources, one at a time,
 and tells which are found.
 
-usage: tests/export/export_plants.py [--look | --exporter | --turn | NUMBER ..]
+usage: tests/export/export_plants.py [--look | NUMBER ..]
 
 First it says which plants, of all, cannot be made in the files as they are, and ends with status 1
 if there are any. With --look it exports the copy as it is, too, and does no more than that. Nor
@@ -13,12 +13,8 @@ Each is planted in a copy in a scratch folder, which is exported, compiled and t
 refuses a second crates.txt in the repository, under target/ too.) It is found where the export, the
 comparisons of tokens (same_tokens.py, same_c_tokens.py), rustc, a test or a transcript refuses it.
 The comparisons must find the plants in NAMES. Beside that it is told whether the odd forms of
-export_test.py refuse it. The gate plants with --exporter those in the exporter, which take seconds
-each, if that changed, and then changes 1,000 words of the export (changed_words.py). With --turn it
-plants three of those in the library under the sources, which take a minute or two each, if that
-changed: whose turn it is follows from the sum of its files.
+export_test.py refuse it. Last it changes 1,000 words of the export (changed_words.py).
 """
-import hashlib
 import os
 import shutil
 import signal
@@ -268,16 +264,6 @@ def plants_of(folder):
     return [number for number, plant in enumerate(PLANTS, 1) if plant[1].startswith(folder)]
 
 
-def in_turn():
-    """The numbers of the three plants in the library under the sources whose turn it is."""
-    files, numbers = sorted((ROOT / KIT).rglob("*.rs")), plants_of(KIT)
-    total = hashlib.sha256(b"".join(path.read_bytes() for path in files)).digest()
-    count = int.from_bytes(total[:4], "big")
-    turn = [numbers[(count + more) % len(numbers)] for more in range(3)]
-    print(f"plants {turn} of {len(PLANTS)}, whose turn it is by the sum of {KIT}", flush=True)
-    return turn
-
-
 def main():
     words = sys.argv[1:]
     if look():
@@ -287,9 +273,7 @@ def main():
         step = refusing(STEPS[:3])
         print(f"The copy does not pass: {step}" if step else "the copy is exported, as it is")
         return 1 if step else 0
-    wanted = (in_turn() if words == ["--turn"] else
-              plants_of("tools/") if words == ["--exporter"] else
-              [int(word) for word in words] or range(1, len(PLANTS) + 1))
+    wanted = [int(word) for word in words] or range(1, len(PLANTS) + 1)
     copy_anew()
     step = refusing(STEPS[:4])
     if step:

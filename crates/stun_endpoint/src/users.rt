@@ -55,8 +55,8 @@ impl<A: Allocator> fmt::Debug for Users<A> {
 }
 
 impl<A: Memory> Users<A> {
-    /// Adds a user with a password, and derives a key for each algorithm. If the table already has a
-    /// user of that name, this password replaces the user's password or keys.
+    /// Adds a user with a password, and derives a key for each algorithm. If the table already has
+    /// a user of that name, this password replaces the user's password or keys.
     ///
     /// Fails if an allocation fails. The table is then unchanged.
     pub fn add(&mut self, credentials: LongTermCredentials<A>) -> Result<(), AllocError>

@@ -770,10 +770,8 @@ int64_t stunp_server_new(stunp_server *server, const char *realm, size_t realm_l
 /* Sets the algorithms that the server supports: STUNP_SHA1, STUNP_SHA256, or
  * STUNP_SHA1 | STUNP_SHA256.
  *
- * Call this before you add users, because it makes the keys of all users again, which takes most of
- * a second with 100,000 users. Also call it before the first message arrives, because messages to a
- * client whose algorithm is no longer supported cannot be signed until you call
- * stunp_server_remove_client.
+ * Call this before the first message arrives, because messages to a client whose algorithm is no
+ * longer supported cannot be signed until you call stunp_server_remove_client.
  *
  * Returns 0. Errors:
  *   STUNP_EMPTY_HANDLE, STUNP_WRONG_HANDLE

@@ -16,7 +16,7 @@ use Rattle.stun_endpoint.specs.Judged.{users_at}
 use Rattle.stun_endpoint.specs.Nonces.{epoch_of, nonce_in}
 use Rattle.stun_endpoint.specs.Offers.{HasAllowedHash, HasChosen, HasOfferedList, IsOffered}
 use Rattle.stun_endpoint.specs.Received.{AcceptedRequest, Answer, Outcome, answered, dropped}
-use Rattle.stun_endpoint.specs.Received.{received_by, received_for, requested}
+use Rattle.stun_endpoint.specs.Received.{received_for, requested}
 use Rattle.stun_endpoint.specs.Settings.{Settings}
 use Rattle.stun_endpoint.specs.declared.received.DropReason.TheVariants.{OtherRealm}
 use Rattle.stun_endpoint.proofs.AcceptedLemmas.{accepted_at}

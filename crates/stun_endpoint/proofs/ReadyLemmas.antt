@@ -12,7 +12,7 @@ use Rattle.stun_judging.specs.declared.refusal.VerdictRefusal.TheVariants.{Stale
 use Rattle.stun_judging.specs.Found.{ClaimSeen, claim_by, claim_of}
 use Rattle.stun_judging.specs.Named.{Named, named_in}
 use Rattle.stun_judging.specs.Reading.{Reading, reading_of, is_complete}
-use Rattle.stun_judging.specs.Verdict.{agreement_offering, nonce_refusal, their_nonce}
+use Rattle.stun_judging.specs.Verdict.{agreement_offering, nonce_refusal}
 use Rattle.stun_judging.proofs.FoundLemmas.{claim_message}
 use Rattle.stun_endpoint.specs.Lookups.{accepted_nonces, has_one_of, nonces_of}
 use Rattle.stun_endpoint.specs.Lookups.{previous_nonces, waits_for}

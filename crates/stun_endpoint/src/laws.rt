@@ -127,10 +127,10 @@ pub fn outcomes_are_of_accepted_clients()
 /// A server judges by its own settings, whatever the settings for which its users were made.
 ///
 /// - `requests`: a request that is returned to the caller has only what the server's settings
-///   offer (`IsOffered`). The agreed algorithm is one that the server supports. A list of algorithms
-///   is the one that the server offers, and the choice is the agreed algorithm. A server that
-///   supports only HMAC-SHA1 offers no list, and accepts neither list nor choice. A hash of a name
-///   is accepted only if the server allows hashed names.
+///   offer (`IsOffered`). The agreed algorithm is one that the server supports. A list of
+///   algorithms is the one that the server offers, and the choice is the agreed algorithm. A server
+///   that supports only HMAC-SHA1 offers no list, and accepts neither list nor choice. A hash of a
+///   name is accepted only if the server allows hashed names.
 /// - `answers`: the same holds for a request that the server answers with a success or a 420.
 /// - `other_realm`: with users of a realm with another name, the server drops every datagram, and
 ///   names the reason. So it accepts nobody.

@@ -21,8 +21,9 @@ use stun_judging::stored_keys::StoredKeys;
 /// The calls of a server that judge a request only read the table, so you can share it in an `Arc`.
 /// To change the users, replace the `Arc` by one with a new table.
 ///
-/// Contracts: a table has its realm, its algorithms, and the password or the keys of each user.
-/// `Debug` shows none of them.
+/// Contracts: a table has its realm, and the password or the keys of each user. It also has the
+/// algorithms and the `user_hashes` of the server that made it, which do not count. `Debug` shows
+/// none of them.
 #[derive(Drop)]
 pub struct Users<A: Allocator = Global> {
     pub(crate) realm: Realm<A>,
@@ -55,7 +56,8 @@ impl<A: Allocator> fmt::Debug for Users<A> {
 }
 
 impl<A: Memory> Users<A> {
-    /// Adds a user with a password, and derives a key for each algorithm. If the table already has a user of that name, this password replaces the user's password or keys.
+    /// Adds a user with a password, and derives a key for each algorithm. If the table already has
+    /// a user of that name, this password replaces the user's password or keys.
     ///
     /// Fails if an allocation fails. The table is then unchanged.
     pub fn add(&mut self, credentials: LongTermCredentials<A>) -> Result<(), AllocError>

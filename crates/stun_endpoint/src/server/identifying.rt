@@ -139,8 +139,8 @@ impl<A: Memory> Server<A> {
     /// the user is of a realm with another name, the request is dropped with `OtherRealm`.
     ///
     /// If the name of the user differs from the name in `user_id`, as after a look-up that ignores
-    /// case, the client gets a 401. You may resume at another server with the same realm and secret,
-    /// for example after a change of settings.
+    /// case, the client gets a 401. You may resume at another server with the same realm and
+    /// secret, for example after a change of settings.
     ///
     /// Fails if an allocation fails. Over UDP nothing is lost then, because the client retransmits
     /// its request.

@@ -1,23 +1,23 @@
 -- At each index of a list of events: the verdict is that an accepted datagram has.
 use Rattle.std.proofs.Common.{◌≡◌, ℕ, zero, suc, List, [], ◌∷◌, take}
-use Rattle.std.proofs.Common.{Some, None, Bool, true, false, refl, sym, ◌∙◌, ap, Ok, Err}
+use Rattle.std.proofs.Common.{Some, None, Bool, true, false, refl, sym, ◌∙◌, ap, Ok}
 use Rattle.std.specs.Prelude.{cond, slice_get}
 use Rattle.std.specs.Global.{Vec}
 use Rattle.std.specs.declared.net.socket_addr.SocketAddr.{SocketAddr}
-use Rattle.stun_base.specs.declared.keys.algorithm.IntegrityAlgorithm.{IntegrityAlgorithm}
 use Rattle.stun_judging.specs.Reading.{reading_of}
-use Rattle.stun_proto.specs.Serving.{Validated}
+use Rattle.stun_judging.specs.Verdict.{ClientSeen}
+use Rattle.stun_endpoint.specs.Judged.{judged}
 use Rattle.stun_endpoint.specs.Nonces.{epoch_of}
 use Rattle.stun_endpoint.specs.Responding.{is_undropped_request}
 use Rattle.stun_endpoint.specs.Settings.{Settings}
 use Rattle.stun_endpoint.proofs.AcceptedLemmas.{accepted_at}
-use Rattle.stun_datagrams.specs.Events.{ServerEvent, Arrived, Secrets, realm_with, users_after}
-use Rattle.stun_datagrams.specs.Events.{users_after_event, verdict_of_event, verdicts}
-use Rattle.stun_datagrams.specs.Sentence.{IsAcceptedFrom, ValidatesAcceptedDatagrams}
-use Rattle.stun_datagrams.proofs.EventLemmas.{judgement, verdict_is}
-use Rattle.stun_datagrams.proofs.PickLemmas.{Verdict, as_reply}
+use Rattle.stun_datagrams.specs.Events.{ServerEvent, Arrived, UserSecrets, RequestVerdict}
+use Rattle.stun_datagrams.specs.Events.{realm_with}
+use Rattle.stun_datagrams.specs.Events.{users_after, users_after_event, verdict_of_event, verdicts}
+use Rattle.stun_datagrams.specs.Sentence.{AcceptsFromClients, IsAcceptedFrom}
 
-verdict_at : (s : Settings) (users : Secrets) (events : List ServerEvent) (i : ℕ) (e : ServerEvent)
+verdict_at : (s : Settings) (users : UserSecrets) (events : List ServerEvent) (i : ℕ)
+    (e : ServerEvent)
     → slice_get events i ≡ Some e
     → slice_get (verdicts s users events) i
     ≡ Some (verdict_of_event s (users_after users (take i events)) e)
@@ -27,55 +27,40 @@ verdict_at s users (first ∷ later) zero e h =
 verdict_at s users (first ∷ later) (suc i) e h =
     verdict_at s (users_after_event users first) later i e h
 
--- a verdict is `Validated` if and only if someone is accepted
-validated_is : (v : Verdict) (a : IntegrityAlgorithm)
-    → Some (Some (as_reply v)) ≡ Some (Some (Validated a))
-    → (name : List ℕ) × (v ≡ Ok (record { name = name; algorithm = a }))
-validated_is (Ok client) a h =
-    let same : client.algorithm ≡ a = cc in
-    (client.name, ap (λ b. Ok (record { name = client.name; algorithm = b })) same)
-validated_is (Err refusal) a h = cc
+-- a verdict is there only if the datagram is judged
+is_judged : (b : Bool) (v w : RequestVerdict) → Some (cond b (Some v) None) ≡ Some (Some w)
+    → (b ≡ true) × (v ≡ w)
+is_judged true v w h = (refl, cc)
+is_judged false v w h = cc
 
-module _ (s : Settings) (users : Secrets) (from : SocketAddr) (now : ℕ) (message : Vec ℕ)
-    (a : IntegrityAlgorithm) where
-  abbrev Accepted : Type 0
-  Accepted =
-      (name : List ℕ) × IsAcceptedFrom s users from now message.items
-      (record { name = name; algorithm = a })
+module _ (s : Settings) (users : UserSecrets) (from : SocketAddr) (now : ℕ) (message : Vec ℕ)
+    (client : ClientSeen) where
+  abbrev v : RequestVerdict
+  v = judged s (realm_with s users) from now (reading_of message.items)
 
-  abbrev v : Verdict
-  v = judgement s users from now message
-
-  forth : (b : Bool) → is_undropped_request s.requires_fingerprint message.items ≡ b
-      → Some (cond b (Some (as_reply v)) None) ≡ Some (Some (Validated a)) → Accepted
-  forth true is h =
-      let one = validated_is v a h in (
+  forth : Some (verdict_of_event s users (Arrived from now message)) ≡ Some (Some (Ok client))
+      → IsAcceptedFrom s users from now message.items client
+  forth h =
+      let one = is_judged (is_undropped_request s.requires_fingerprint message.items) v (Ok client)
+      h in (
         one.0,
-        (
-          is,
-          (accepted_at s (realm_with s users) from (reading_of message.items)
-              (record { name = one.0; algorithm = a }) (epoch_of s now)).0 one.1,
-        ),
+        (accepted_at s (realm_with s users) from (reading_of message.items) client
+            (epoch_of s now)).0 one.1,
       )
-  forth false is h = cc
 
-  back : Accepted
-      → Some (cond (is_undropped_request s.requires_fingerprint message.items) (Some (as_reply v)) None)
-      ≡ Some (Some (Validated a))
-  back (name, (is, one)) =
-      ap (λ b. Some (cond b (Some (as_reply v)) None)) is
-      ∙ ap (λ w. Some (Some (as_reply w)))
-      ((accepted_at s (realm_with s users) from (reading_of message.items)
-      (record { name = name; algorithm = a }) (epoch_of s now)).1 one)
+  back : IsAcceptedFrom s users from now message.items client
+      → Some (verdict_of_event s users (Arrived from now message)) ≡ Some (Some (Ok client))
+  back (is, one) =
+      ap (λ b. Some (cond b (Some v) None)) is
+      ∙ ap (λ w. Some (Some w))
+      ((accepted_at s (realm_with s users) from (reading_of message.items) client
+      (epoch_of s now)).1 one)
 
-pub validates_accepted : (s : Settings) (start : Secrets) (events : List ServerEvent)
-    → ValidatesAcceptedDatagrams s start events (verdicts s start events)
-validates_accepted s start events i from now message a is =
+pub accepts_from_clients : (s : Settings) (start : UserSecrets) (events : List ServerEvent)
+    → AcceptsFromClients s start events (verdicts s start events)
+accepts_from_clients s start events i from now message client is =
     let users = users_after start (take i events) in
-    let found =
-    verdict_at s start events i (Arrived from now message) is
-    ∙ ap Some (verdict_is s users from now message) in (
-      λ h. forth s users from now message a (is_undropped_request s.requires_fingerprint message.items) refl
-          (sym found ∙ h),
-      λ accepted. found ∙ back s users from now message a accepted,
+    let found = verdict_at s start events i (Arrived from now message) is in (
+      λ h. forth s users from now message client (sym found ∙ h),
+      λ accepted. found ∙ back s users from now message client accepted,
     )

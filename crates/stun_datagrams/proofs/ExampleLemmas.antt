@@ -1,19 +1,21 @@
 -- A request that a registered user signs is accepted.
-use Rattle.std.proofs.Common.{◌≡◌, ◌≤◌, ◌+◌, inl, ℕ, zero, suc}
+use Rattle.std.proofs.Common.{◌≡◌, ◌≤◌, ◌<◌, ◌^◌, ◌+◌, inl, ℕ, zero, suc}
+use Rattle.std.proofs.lemmas.List.{length-take}
 use Rattle.std.proofs.Common.{List, [], ◌++◌}
 use Rattle.std.proofs.Common.{Option, Some, None, true, false, refl, sym, ◌∙◌, ap, arith, Ok}
 use Rattle.std.proofs.Common.{length, map}
-use Rattle.std.specs.Prelude.{cond, IsUtf8}
+use Rattle.std.specs.Prelude.{cond, not, take, ◌&&◌, ◌||◌, IsUtf8}
 use Rattle.std.specs.List.{AllByRecursion}
 use Rattle.std.specs.Option.{is_some, option_map}
 use Rattle.std.specs.declared.net.socket_addr.SocketAddr.{SocketAddr}
 use Rattle.stun_base.specs.Attributes.{FINGERPRINT}
 use Rattle.stun_base.specs.Credentials.{NameAndPassword}
 use Rattle.stun_base.specs.Keys.{long_term_key}
-use Rattle.stun_base.specs.MessageType.{class_in, type_number}
+use Rattle.stun_base.specs.MessageType.{class_in, class_of, type_number}
 use Rattle.stun_base.specs.declared.keys.algorithm.IntegrityAlgorithm.TheVariants.{Sha1, Sha256}
 use Rattle.stun_base.specs.declared.wire.message_type.MessageClass.{MessageClass}
 use Rattle.stun_base.specs.declared.wire.message_type.MessageClass.TheVariants as Class
+use Rattle.stun_types.specs.Grammar.{spelled_message}
 use Rattle.stun_types.specs.Integrity.{first_of}
 use Rattle.stun_types.specs.Visible.{visible}
 use Rattle.stun_types.specs.Walk.{Member, walk_up_to}
@@ -29,29 +31,32 @@ use Rattle.stun_judging.specs.Nonces.{letter}
 use Rattle.stun_judging.specs.Reading.{Reading, error_code, reading_of}
 use Rattle.stun_judging.specs.Registered.{UserSecret, of_password}
 use Rattle.stun_judging.specs.Verdict.{ClientSeen}
-use Rattle.stun_judging.specs.Verdict.{IsAccepted, agreement, choice, named_by, named_user}
+use Rattle.stun_judging.specs.Verdict.{IsAccepted, IsAcceptedOffering, agreement, choice}
+use Rattle.stun_judging.specs.Verdict.{is_unoffered, named_by, named_user}
 use Rattle.stun_judging.specs.Signed.{Added, HasRoomFor, IsBuilt, IsSmall, IsText, IsUnsigned}
 use Rattle.stun_judging.specs.Signed.{IsWithinLimits, ReadsAs, additions_of}
 use Rattle.stun_judging.proofs.SignedReading.{typed-additions}
 use Rattle.stun_extra.specs.Fingerprint.{fingerprint_if, fingerprint_in}
 use Rattle.stun_extra.specs.declared.fingerprint.Fingerprint.TheVariants.{Absent}
-use Rattle.stun_proto.specs.Negotiation.{request}
 use Rattle.stun_endpoint.specs.Judged.{IsAcceptedUnder}
 use Rattle.stun_endpoint.specs.Nonces.{current_nonce, epoch_of, front_of, nonce_in, words_of}
 use Rattle.stun_endpoint.specs.Responding.{drop_reason, fault_of, is_undropped_request}
 use Rattle.stun_endpoint.specs.Responding.{no_message}
 use Rattle.stun_endpoint.specs.Lookups.{users_with}
 use Rattle.stun_endpoint.specs.Settings.{Settings}
-use Rattle.stun_datagrams.specs.Events.{Secrets, realm_with}
+use Rattle.stun_datagrams.specs.Events.{UserSecrets, realm_with}
 use Rattle.stun_datagrams.specs.Example.{IsUserOf, SignedRequestsAreAccepted, added_by_user}
-use Rattle.stun_datagrams.specs.Example.{strongest_in}
+use Rattle.stun_datagrams.specs.Example.{plain_binding_request, strongest_in}
 use Rattle.stun_endpoint.proofs.OfferLemmas.{nonce_asks}
 use Rattle.stun_datagrams.proofs.OutcomeLemmas.{undropped_is}
 use Rattle.stun_datagrams.proofs.EventLemmas.{class_read}
-use Rattle.stun_datagrams.proofs.FourCalls.{sixteen}
-use Rattle.stun_datagrams.proofs.ResponseLemmas.{BareAreBuilt}
 
--- what the laws of `stun_auth` say of signed messages and of nonces
+abbrev pub BareAreBuilt : Type 0
+BareAreBuilt =
+    (message_type transaction_id : ℕ) → message_type < 2 ^ 14
+    → IsBuilt (spelled_message message_type transaction_id []) (class_of message_type) None
+
+-- what the laws of `stun_judging` and `stun_endpoint` say of signed messages and of nonces
 pub record SigningLaws : Type 0 where
   pub built : BareAreBuilt
   pub read : (a : Added) (message : List ℕ) (room : ℕ) (page : Page) → IsUnsigned message
@@ -72,6 +77,10 @@ pub record SigningLaws : Type 0 where
   pub short : (s : Settings) (words : List ℕ)
       → length (front_of s.algorithms s.feature ++ map letter words) ≤ 13 + length words
 
+-- a nonce is made of at most sixteen numbers
+sixteen : (list : List ℕ) → length (take 16 list) ≤ 16
+sixteen list = omega (arith, length-take 16 list)
+
 -- ---- by the supported algorithms
 
 -- both sides mean the strongest
@@ -82,6 +91,14 @@ agreed : (set : AlgorithmSet) (nonce realm : List ℕ) (user : NameAndPassword)
 agreed OnlySha1 nonce realm user = refl
 agreed OnlySha256 nonce realm user = refl
 agreed Both nonce realm user = refl
+
+-- the user adds a list and a choice only if the server offers a list
+offered_only : (set : AlgorithmSet) (nonce realm : List ℕ) (user : NameAndPassword)
+    → let a = added_by_user set nonce realm user in
+    (not (contains Sha256 set) && (is_some a.algorithms || is_some a.algorithm)) ≡ false
+offered_only OnlySha1 nonce realm user = refl
+offered_only OnlySha256 nonce realm user = refl
+offered_only Both nonce realm user = refl
 
 supported_is : (set : AlgorithmSet) → contains (strongest_in set) set ≡ true
 supported_is OnlySha1 = refl
@@ -109,19 +126,19 @@ no_fingerprint Both nonce realm user message = refl
 
 -- ---- the request
 
-request_shows : visible (request 7) ≡ []
-unfolding request visible walk_up_to
+request_shows : visible plain_binding_request ≡ []
+unfolding plain_binding_request visible walk_up_to
 request_shows = refl
 
-request_class : class_in (request 7) ≡ Class.Request
-unfolding request
+request_class : class_in plain_binding_request ≡ Class.Request
+unfolding plain_binding_request
 request_class = refl
 
-request_built : BareAreBuilt → IsBuilt (request 7) Class.Request None
-unfolding request
+request_built : BareAreBuilt → IsBuilt plain_binding_request Class.Request None
+unfolding plain_binding_request
 request_built law = law (type_number Class.Request 1) 7 (omega arith)
 
-module _ (laws : SigningLaws) (s : Settings) (users : Secrets) (user : NameAndPassword)
+module _ (laws : SigningLaws) (s : Settings) (users : UserSecrets) (user : NameAndPassword)
     (from : SocketAddr) (now : ℕ) (known : IsUserOf s users user)
     (plain : s.requires_fingerprint ≡ false) where
   abbrev words : List ℕ
@@ -133,7 +150,7 @@ module _ (laws : SigningLaws) (s : Settings) (users : Secrets) (user : NameAndPa
   abbrev a : Added
   a = added_by_user s.algorithms nonce s.realm user
 
-  abbrev built : IsBuilt (request 7) Class.Request None
+  abbrev built : IsBuilt plain_binding_request Class.Request None
   built = request_built laws.built
 
   within : IsWithinLimits a
@@ -154,11 +171,11 @@ module _ (laws : SigningLaws) (s : Settings) (users : Secrets) (user : NameAndPa
     userhash = tt;
   }
 
-  signed : (page : Page) × (added_all (additions_of a) (page_of (request 7)) ≡ Ok page)
+  signed : (page : Page) × (added_all (additions_of a) (page_of plain_binding_request) ≡ Ok page)
   signed =
-      let room = (page_of (request 7)).room in
-      laws.signs a (request 7) room built.unsigned within
-      (laws.room a (request 7) room Class.Request None built
+      let room = (page_of plain_binding_request).room in
+      laws.signs a plain_binding_request room built.unsigned within
+      (laws.room a plain_binding_request room Class.Request None built
       (small s.algorithms nonce s.realm user within) (omega (arith, built.short)))
 
   abbrev page : Page
@@ -170,12 +187,14 @@ module _ (laws : SigningLaws) (s : Settings) (users : Secrets) (user : NameAndPa
   abbrev client : ClientSeen
   client = record { name = user.username; algorithm = strongest_in s.algorithms }
 
-  reads : ReadsAs (class_in (request 7)) (error_code (request 7)) a r
-  reads = laws.read a (request 7) (page_of (request 7)).room page built.unsigned texts signed.1
+  reads : ReadsAs (class_in plain_binding_request) (error_code plain_binding_request) a r
+  reads =
+      laws.read a plain_binding_request (page_of plain_binding_request).room page built.unsigned
+      texts signed.1
 
-  has_added : HasAdded (request 7) (additions_of a) page.bytes
+  has_added : HasAdded plain_binding_request (additions_of a) page.bytes
   has_added =
-      laws.added (additions_of a) (request 7) (page_of (request 7)).room page
+      laws.added (additions_of a) plain_binding_request (page_of plain_binding_request).room page
       built.unsigned.is_open (typed-additions a) signed.1
 
   named : named_user (users_with s users) s.feature r
@@ -197,8 +216,16 @@ module _ (laws : SigningLaws) (s : Settings) (users : Secrets) (user : NameAndPa
       (choice a.algorithms c (algorithms_of s.algorithms)) (Some Sha1)) reads.algorithm_is
       ∙ agreed s.algorithms nonce s.realm user
 
-  accepted : IsAccepted (users_with s users) s.feature nonce (Some s.algorithms) r client
-  accepted = record {
+  offered_here : is_unoffered s.algorithms r ≡ false
+  offered_here =
+      ap (λ l. not (contains Sha256 s.algorithms) && (is_some l || is_some r.algorithm))
+      reads.algorithms_are
+      ∙ ap (λ c. not (contains Sha256 s.algorithms) && (is_some a.algorithms || is_some c))
+      reads.algorithm_is
+      ∙ offered_only s.algorithms nonce s.realm user
+
+  accepted_as_all : IsAccepted (users_with s users) s.feature nonce (Some s.algorithms) r client
+  accepted_as_all = record {
     secret = of_password user.password;
     key = long_term_key (strongest_in s.algorithms) user.username s.realm user.password;
     realm = ap is_some reads.realm_is;
@@ -214,10 +241,13 @@ module _ (laws : SigningLaws) (s : Settings) (users : Secrets) (user : NameAndPa
     }) refl);
   }
 
+  accepted : IsAcceptedOffering (users_with s users) s.feature nonce s.algorithms r client
+  accepted = record { offered = offered_here; accepted = accepted_as_all }
+
   -- under the nonce of the epoch
   under : (e : ℕ)
-      → IsAccepted (users_with s users) s.feature (nonce_in s s.secret from e)
-      (Some s.algorithms) r client
+      → IsAcceptedOffering (users_with s users) s.feature (nonce_in s s.secret from e) s.algorithms
+      r client
       → IsAcceptedUnder s (realm_with s users) s.secret from e r client
   under zero one = one
   under (suc e) one = inl one
@@ -230,10 +260,10 @@ module _ (laws : SigningLaws) (s : Settings) (users : Secrets) (user : NameAndPa
       ∙ ap (λ (members : List Member). fault_of s.requires_fingerprint (fingerprint_if page.bytes
       (first_of FINGERPRINT members)))
       (has_added.visible_is
-      ∙ ap (λ (shown : List Member). shown ++ added_members (request 7) (additions_of a))
+      ∙ ap (λ (shown : List Member). shown ++ added_members plain_binding_request (additions_of a))
       request_shows)
       ∙ ap (λ (m : Option Member). fault_of s.requires_fingerprint (fingerprint_if page.bytes m))
-      (no_fingerprint s.algorithms nonce s.realm user (request 7))
+      (no_fingerprint s.algorithms nonce s.realm user plain_binding_request)
       ∙ ap (λ required. fault_of required Absent) plain
 
   kept : is_undropped_request s.requires_fingerprint page.bytes ≡ true

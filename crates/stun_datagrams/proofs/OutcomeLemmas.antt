@@ -26,7 +26,7 @@ use Rattle.stun_endpoint.specs.Settings.{Settings}
 use Rattle.stun_endpoint.specs.declared.received.DropReason.{DropReason}
 use Rattle.stun_endpoint.specs.declared.received.DropReason.TheVariants.{UnknownAttribute}
 use Rattle.stun_endpoint.proofs.AcceptedLemmas.{accepted_at}
-use Rattle.stun_datagrams.specs.Events.{ServerEvent, UserAdded, UserRemoved, Arrived, Secrets}
+use Rattle.stun_datagrams.specs.Events.{ServerEvent, UserAdded, UserRemoved, Arrived, UserSecrets}
 use Rattle.stun_datagrams.specs.Events.{is_of_source, outcome_of_event, outcomes, own_events}
 use Rattle.stun_datagrams.specs.Events.{own_outcomes, realm_with, users_after, users_after_event}
 use Rattle.stun_datagrams.specs.Sentence.{AreIsolated, AreJudgedAlone, HandsOutAccepted}
@@ -35,7 +35,7 @@ use Rattle.stun_datagrams.proofs.EventLemmas.{kept_request}
 
 -- ---- one index
 
-pub outcome_at : (s : Settings) (users : Secrets) (events : List ServerEvent) (i : ℕ)
+pub outcome_at : (s : Settings) (users : UserSecrets) (events : List ServerEvent) (i : ℕ)
     (e : ServerEvent)
     → slice_get events i ≡ Some e
     → slice_get (outcomes s users events) i
@@ -48,7 +48,7 @@ outcome_at s users (first ∷ later) (suc i) e h =
 
 -- ---- whatever came before
 
-pub outcome_after : (s : Settings) (start : Secrets) (before after : List ServerEvent)
+pub outcome_after : (s : Settings) (start : UserSecrets) (before after : List ServerEvent)
     (e : ServerEvent)
     → slice_get (outcomes s start (before ++ e ∷ after)) (length before)
     ≡ Some (outcome_of_event s (users_after start before) e)
@@ -65,13 +65,14 @@ judged_alone s start other before instead after then e same =
 -- ---- whatever others send
 
 -- the datagram of another source leaves the users
-other_source : (from : SocketAddr) (users : Secrets) (e : ServerEvent) → is_of_source from e ≡ false
+other_source : (from : SocketAddr) (users : UserSecrets) (e : ServerEvent)
+    → is_of_source from e ≡ false
     → users_after_event users e ≡ users
 other_source from users (UserAdded name password) h = cc
 other_source from users (UserRemoved name) h = cc
 other_source from users (Arrived source now message) h = refl
 
-isolated_if : (s : Settings) (from : SocketAddr) (start : Secrets) (e : ServerEvent)
+isolated_if : (s : Settings) (from : SocketAddr) (start : UserSecrets) (e : ServerEvent)
     (later : List ServerEvent) (own : List (Option Outcome)) (b : Bool) → is_of_source from e ≡ b
     → own ≡ outcomes s (users_after_event start e) (own_events from later)
     → cond b (outcome_of_event s start e ∷ own) own
@@ -80,7 +81,7 @@ isolated_if s from start e later own true is h = ap (λ os. outcome_of_event s s
 isolated_if s from start e later own false is h =
     h ∙ ap (λ users. outcomes s users (own_events from later)) (other_source from start e is)
 
-pub isolated : (s : Settings) (events : List ServerEvent) (start : Secrets)
+pub isolated : (s : Settings) (events : List ServerEvent) (start : UserSecrets)
     → AreIsolated s start events (outcomes s start events)
 isolated s [] start from = refl
 isolated s (e ∷ later) start from =
@@ -200,7 +201,7 @@ module _ (s : Settings) (realm : Realm) (from : SocketAddr) (now : ℕ) (bytes :
       )
 
 -- a datagram of a list
-pub hands_out_accepted : (s : Settings) (start : Secrets) (events : List ServerEvent)
+pub hands_out_accepted : (s : Settings) (start : UserSecrets) (events : List ServerEvent)
     → HandsOutAccepted s start events (outcomes s start events)
 hands_out_accepted s start events i from now message client is =
     let users = users_after start (take i events) in

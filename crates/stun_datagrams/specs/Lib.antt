@@ -4,10 +4,6 @@
 pub mod Sentence
 -- the events at a server, and the outcome of each datagram
 pub mod Events
--- the calls that they stand for at a server that keeps records
-pub mod Calls
--- those calls for each datagram that arrives
-pub mod Runs
 -- a request that a registered user signs
 pub mod Example
 -- datagrams at a server without credentials, and at one with short-term credentials

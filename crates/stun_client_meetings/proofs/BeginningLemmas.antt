@@ -38,7 +38,7 @@ use Rattle.stun_client_calls.specs.Options.{Options, challenge_by, plan_by}
 use Rattle.stun_client_calls.proofs.IdLemmas.{free_at}
 use Rattle.stun_client_runs.specs.Kept.{IsClient}
 use Rattle.stun_endpoint.specs.Settings.{Settings}
-use Rattle.stun_exchanges.specs.Exchange.{UserSecrets}
+use Rattle.stun_judging.specs.Registered.{Registered}
 use Rattle.stun_requests.specs.Fitting.{IsWritten}
 use Rattle.stun_client_meetings.specs.Beginning.{CanBegin, side_of}
 use Rattle.stun_client_meetings.specs.Meeting.{CanGoOn, IsClientOf, IsMeetable, IsSignedFor}
@@ -67,7 +67,7 @@ is_client_of n is = record {
   required_is = refl;
 }
 
-module _ (s : Settings) (users : UserSecrets) (n : NewClient) (a : IntegrityAlgorithm)
+module _ (s : Settings) (users : Registered) (n : NewClient) (a : IntegrityAlgorithm)
     (can : CanBegin s users n a) (method : ℕ) (body : Body)
     (page : IsWritten n.form n.who n.preferences n.accepts_unsigned None method (id_of n.seed 0)
     body)

@@ -10,6 +10,7 @@ use Rattle.stun_base.specs.declared.keys.algorithm.IntegrityAlgorithm.TheVariant
 use Rattle.stun_base.specs.declared.wire.transport.TransportType.TheVariants.{Udp}
 use Rattle.stun_types.specs.Limits.{TEXT_LIMIT}
 use Rattle.stun_agent.specs.Timing.{default_settings}
+use Rattle.stun_judging.specs.Registered.{Registered}
 use Rattle.stun_judging.specs.Signed.{plain_name}
 use Rattle.stun_judging.specs.declared.feature.Feature.TheVariants.{Disabled}
 use Rattle.stun_client.specs.Ids.{id_of}
@@ -20,10 +21,10 @@ use Rattle.stun_client_calls.specs.NewClients.{NewClient, made_of}
 use Rattle.stun_client_calls.specs.Options.{Options, plan_by}
 use Rattle.stun_client_calls.specs.Receiving.{Memory}
 use Rattle.stun_endpoint.specs.Nonces.{current_nonce}
-use Rattle.stun_endpoint.specs.Received.{answered, challenge_answer, received_by}
+use Rattle.stun_endpoint.specs.Received.{answered, challenge_answer, received_for}
 use Rattle.stun_endpoint.specs.Settings.{Settings}
 use Rattle.stun_endpoint.specs.declared.received.Refusal.TheVariants.{Unauthenticated}
-use Rattle.stun_exchanges.specs.Exchange.{IsWithinPeriod, UserSecrets, realm_knowing}
+use Rattle.stun_exchanges.specs.Exchange.{IsWithinPeriod}
 use Rattle.stun_exchanges.specs.Instance.{example_preferences, example_settings, example_user}
 use Rattle.stun_exchanges.specs.Instance.{example_users}
 use Rattle.stun_requests.specs.Fitting.{IsBuiltBody}
@@ -45,7 +46,7 @@ side_of n = record {
 
 -- it can meet a server: another message of its requests may become the current one at least once,
 -- SOFTWARE fits, and its first two transaction IDs differ
-pub record CanBegin (s : Settings) (users : UserSecrets) (n : NewClient) (a : IntegrityAlgorithm)
+pub record CanBegin (s : Settings) (users : Registered) (n : NewClient) (a : IntegrityAlgorithm)
     : Type 0 where
   pub meet : CanMeet s users (side_of n) a
   pub turns : 0 < n.turns
@@ -54,13 +55,13 @@ pub record CanBegin (s : Settings) (users : UserSecrets) (n : NewClient) (a : In
 
 -- it starts a request with these options, which the server challenges. The challenge arrives, and
 -- the server accepts the request that the client sends for it, while the nonce lasts
-pub record AreIntroduced (s : Settings) (users : UserSecrets) (from : SocketAddr) (n : NewClient)
+pub record AreIntroduced (s : Settings) (users : Registered) (from : SocketAddr) (n : NewClient)
     (a : IntegrityAlgorithm) (method : ℕ) (body : Body) (options : Option Options)
     (start time now : ℕ) (memory : Memory) : Type 0 where
   pub starts : refusal_to_start (made_of n) method body options ≡ None
   pub first : List ℕ
   pub unsigned : IsSignedFor 0 None (started method body options start (made_of n)) first
-  pub challenged : received_by s (realm_knowing s users) from time first
+  pub challenged : received_for s (Some users) from time first
       ≡ answered (challenge_answer s Unauthenticated (current_nonce s from time) from first)
   pub renewed : IsSentAgain (side_of n) (started method body options start (made_of n)) 0
       (challenge_at s (side_of n) a from time) (started method body options start (made_of n))
@@ -72,7 +73,7 @@ pub record AreIntroduced (s : Settings) (users : UserSecrets) (from : SocketAddr
 -- the challenge arrives within this plan
 abbrev pub NewClientsMeetServers : Type 0
 NewClientsMeetServers =
-    (s : Settings) (users : UserSecrets) (from : SocketAddr) (n : NewClient)
+    (s : Settings) (users : Registered) (from : SocketAddr) (n : NewClient)
     (a : IntegrityAlgorithm) (method : ℕ) (body : Body) (options : Option Options)
     (start time now : ℕ) (memory : Memory) → CanBegin s users n a → IsMeetable (side_of n) options
     → method < 4096 → IsBuiltBody body

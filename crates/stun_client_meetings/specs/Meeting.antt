@@ -7,6 +7,7 @@ use Rattle.stun_base.specs.Credentials.{NameAndPassword}
 use Rattle.stun_base.specs.Moments.{last_moment}
 use Rattle.stun_base.specs.declared.keys.algorithm.IntegrityAlgorithm.{IntegrityAlgorithm}
 use Rattle.stun_types.specs.Limits.{USERNAME_LIMIT}
+use Rattle.stun_judging.specs.Registered.{Registered}
 use Rattle.stun_judging.specs.Verdict.{ClientSeen}
 use Rattle.stun_extra.specs.CanonicalAddress.{is_same_address}
 use Rattle.stun_client.specs.Challenges.{Answered}
@@ -31,12 +32,12 @@ use Rattle.stun_client_runs.specs.Kept.{IsClient}
 use Rattle.stun_endpoint.specs.Judged.{key_of_client}
 use Rattle.stun_endpoint.specs.Nonces.{current_nonce}
 use Rattle.stun_endpoint.specs.Received.{answered, challenge_answer, outcome_of_accepted}
-use Rattle.stun_endpoint.specs.Received.{received_by}
+use Rattle.stun_endpoint.specs.Received.{received_for}
 use Rattle.stun_endpoint.specs.Settings.{Settings}
 use Rattle.stun_endpoint.specs.declared.received.Refusal.TheVariants.{StaleNonce, Unauthenticated}
 use Rattle.stun_exchanges.specs.Agreement.{AgreeOn, IsSignedAnswer}
 use Rattle.stun_exchanges.specs.Exchange.{IsRegisteredUser, IsResponseTo, IsServer, IsWithinPeriod}
-use Rattle.stun_exchanges.specs.Exchange.{UserSecrets, meant_for, realm_knowing}
+use Rattle.stun_exchanges.specs.Exchange.{meant_for, realm_knowing}
 use Rattle.stun_sessions.specs.Sessions.{IsForgotten}
 use Rattle.stun_requests.specs.Fitting.{IsBuiltBody}
 use Rattle.stun_requests.specs.Served.{IsPrinted}
@@ -61,10 +62,10 @@ pub record IsClientOf (side : ClientSide) (c : Client) : Type 0 where
   pub form_is : c.form ≡ side.form
   pub required_is : c.requires_fingerprint ≡ side.requires_fingerprint
 
--- a client and a server can meet: the server was built, the user is registered at it, the name is a
--- text of at most 513 bytes, both agree on an algorithm, and the client sends the FINGERPRINT that
--- one of them requires
-pub record CanMeet (s : Settings) (users : UserSecrets) (side : ClientSide)
+-- a client and a server can meet: the server was built, the user is registered in a table of its
+-- realm, the name is a text of at most 513 bytes, both agree on an algorithm, and the client sends
+-- the FINGERPRINT that one of them requires
+pub record CanMeet (s : Settings) (users : Registered) (side : ClientSide)
     (a : IntegrityAlgorithm) : Type 0 where
   pub built : IsServer s
   pub known : IsRegisteredUser s users side.who
@@ -138,23 +139,23 @@ pub record IsEndedBy (side : ClientSide) (number : ℕ) (a : IntegrityAlgorithm)
   pub round_trip_is : end.round_trip ≡ round_trip now asked.handed_out
 
 -- a server accepts bytes as a user's with this algorithm, whatever they ask for
-abbrev pub IsAcceptedAs : Settings → UserSecrets → SocketAddr → ℕ → List ℕ → List ℕ
+abbrev pub IsAcceptedAs : Settings → Registered → SocketAddr → ℕ → List ℕ → List ℕ
     → IntegrityAlgorithm → Type 0
 IsAcceptedAs s users from now bytes name a =
     let client : ClientSeen = record { name = name; algorithm = a } in
-    received_by s (realm_knowing s users) from now bytes
+    received_for s (Some users) from now bytes
     ≡ outcome_of_accepted s (key_of_client (realm_knowing s users) client) from bytes client
 
 -- ---- the meeting
 
 -- the exchanges of a client and a server for a request that is outstanding, whose bytes come from
 -- an address
-pub record Meets (s : Settings) (users : UserSecrets) (from : SocketAddr) (side : ClientSide)
+pub record Meets (s : Settings) (users : Registered) (from : SocketAddr) (side : ClientSide)
     (a : IntegrityAlgorithm) (begun : Client) (number : ℕ) (later : Client) (bytes : List ℕ)
     : Type 0 where
   -- without a signature it is challenged
   pub challenged : (time : ℕ) → IsSignedFor number None later bytes
-      → received_by s (realm_knowing s users) from time bytes
+      → received_for s (Some users) from time bytes
       ≡ answered (challenge_answer s Unauthenticated (current_nonce s from time) from bytes)
   -- after the challenge it is sent again, signed for it. A challenge that is weaker than what a
   -- success has confirmed is ignored on purpose
@@ -174,7 +175,7 @@ pub record Meets (s : Settings) (users : UserSecrets) (from : SocketAddr) (side 
   pub stale : (time now : ℕ)
       → IsSignedFor number (Some (challenge_at s side a from time)) later bytes
       → IsForgotten s from time now
-      → received_by s (realm_knowing s users) from now bytes
+      → received_for s (Some users) from now bytes
       ≡ answered (challenge_answer s StaleNonce (current_nonce s from now) from bytes)
   pub refreshed : (time then_at now : ℕ) (memory : Memory)
       (signed : IsSignedFor number (Some (challenge_at s side a from time)) later bytes)
@@ -198,7 +199,7 @@ pub record Meets (s : Settings) (users : UserSecrets) (from : SocketAddr) (side 
 -- server, and a sequence of calls follows, including those for other requests with any options
 abbrev pub ClientsMeetServers : Type 0
 ClientsMeetServers =
-    (s : Settings) (users : UserSecrets) (from : SocketAddr) (side : ClientSide)
+    (s : Settings) (users : Registered) (from : SocketAddr) (side : ClientSide)
     (a : IntegrityAlgorithm) (c later : Client) (method : ℕ) (body : Body)
     (options : Option Options) (start : ℕ) (events : List Event) (bytes : List ℕ)
     → CanMeet s users side a → IsClientOf side c → IsMeetable side options → method < 4096

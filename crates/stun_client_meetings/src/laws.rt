@@ -30,8 +30,9 @@ ghost use Rattle.stun_client_meetings.specs.Meeting.{ClientsMeetServers};
 /// Premises:
 ///
 /// - The client and the server can meet (`CanMeet`): the server was built, the user is registered
-///   with it, the user name is UTF-8 and has at most 513 bytes, both sides agree on an algorithm,
-///   and the client sends FINGERPRINT if one of them requires it.
+///   in the table that the server is passed, the user name is UTF-8 and has at most 513 bytes, both
+///   sides agree on an algorithm, and the client sends FINGERPRINT if one of them requires it. The
+///   table is of the server's realm, and may be made for any algorithms.
 /// - The client has the address of this server and the credentials of this user (`IsClientOf`).
 /// - The options of the request, if it has any, say that it is signed, and that its responses come
 ///   from the address of the server (`IsMeetable`).

@@ -2,7 +2,7 @@
 -- neither: it is refused alike, and whoever is accepted is another user, whose key is the same.
 use Rattle.std.proofs.Common.{◌≡◌, inl, inr, ℕ, zero, suc, List, [], Option, Some, None}
 use Rattle.std.proofs.Common.{Bool, true, false, refl, sym, ◌∙◌, ap, Ok, Err}
-use Rattle.std.specs.Prelude.{cond, ◌⊎◌, unwrap_or}
+use Rattle.std.specs.Prelude.{cond, ◌&&◌, ◌⊎◌, unwrap_or}
 use Rattle.std.specs.Cmp.Lexicographic.{nat_list_cmp_total}
 use Rattle.std.specs.FinMap as fin
 use Rattle.std.specs.Option.{IsSome, is_some, option_and_then, option_map}
@@ -14,11 +14,12 @@ use Rattle.stun_base.specs.declared.wire.message_type.MessageClass.{MessageClass
 use Rattle.stun_base.specs.declared.wire.message_type.MessageClass.TheVariants.{Request}
 use Rattle.stun_base.specs.declared.wire.message_type.MessageClass.TheVariants.{Indication}
 use Rattle.stun_base.specs.declared.wire.message_type.MessageClass.TheVariants.{Success, Error}
-use Rattle.stun_judging.specs.Verdict.{or_before, ClientSeen}
+use Rattle.stun_judging.specs.Verdict.{or_before, ClientSeen, is_unoffered}
 use Rattle.stun_judging.specs.OtherUsers.{VerifiesUnderNone}
 use Rattle.stun_judging.specs.Reading.{Reading, reading_of, verified_under}
 use Rattle.stun_judging.specs.Registered.{RegisteredUser, UserSecret, key_from, key_of, name_cmp}
 use Rattle.stun_judging.specs.declared.refusal.VerdictRefusal.{VerdictRefusal}
+use Rattle.stun_judging.specs.declared.refusal.VerdictRefusal.TheVariants.{BadRequest}
 use Rattle.stun_judging.proofs.NoOracle.{verdict-alike, verdict-unregistered}
 use Rattle.stun_judging.proofs.UserKeys.{tied}
 use Rattle.stun_endpoint.specs.Judged.{IsAcceptedBy, IsAcceptedByPrevious, IsAcceptedUnder}
@@ -112,6 +113,12 @@ module _ (s : Settings) (one other : Realm) (from : SocketAddr) (now : ℕ) (byt
 
 -- ---- realms that differ in the secret of one user
 
+-- the verdict, unless the request has algorithms that were not offered
+abbrev unless_unoffered : Realm → Reading → Result ClientSeen VerdictRefusal
+    → Result ClientSeen VerdictRefusal
+unless_unoffered realm r v =
+    cond (is_some r.integrity && is_unoffered realm.offered r) (Err BadRequest) v
+
 -- what verifies has a key
 no_key : (r : Reading) (key : List ℕ) → IsSome (verified_under r key)
     → verified_under r key ≡ None → ⊥
@@ -147,16 +154,17 @@ module _ (realm : Realm) (name : List ℕ) (r : Reading) where
       by : (b : Bool) → eq_by_cmp name_cmp client.name name ≡ b
           → eq_by_cmp name_cmp client.name name ≡ false
       by true same =
-          let secret_is : accepted.secret ≡ one = some_same accepted.secret one
-          (sym accepted.present ∙ secret_of (Some one) client.name
+          let secret_is : accepted.accepted.secret ≡ one = some_same accepted.accepted.secret one
+          (sym accepted.accepted.present ∙ secret_of (Some one) client.name
           ∙ ap (λ b. cond b (Some one) (fin.get realm.users.secrets client.name)) same) in
-          let key_is : key_from client.algorithm name realm.users.realm one ≡ Some accepted.key =
+          let key_is : key_from client.algorithm name realm.users.realm one
+          ≡ Some accepted.accepted.key =
           ap (λ n. key_from client.algorithm n realm.users.realm one)
           (sym (tied client.name name same))
           ∙ ap (key_from client.algorithm client.name realm.users.realm) (sym secret_is)
-          ∙ accepted.key_is in
-          absurd (no_key r accepted.key accepted.digest
-          (under client.algorithm accepted.key key_is))
+          ∙ accepted.accepted.key_is in
+          absurd (no_key r accepted.accepted.key accepted.accepted.digest
+          (under client.algorithm accepted.accepted.key key_is))
       by false same = same
 
   -- so their key does not depend on the user's secret
@@ -184,8 +192,9 @@ received-alike s realm name one other from now bytes under_one under_other =
     let r = reading_of bytes in
     outcomes-alike s (with_secret_at realm name (Some one)) (with_secret_at realm name (Some other))
     from now bytes (record {
-      verdicts = λ nonce. verdict-alike realm.users name one other r under_one under_other
-          realm.feature nonce (Some realm.offered);
+      verdicts = λ nonce. ap (unless_unoffered realm r)
+          (verdict-alike realm.users name one other r under_one under_other realm.feature nonce
+          (Some realm.offered));
       keys = key-alike realm name r one (Some other) under_one;
     })
 
@@ -199,7 +208,8 @@ received-unregistered s realm name secret from now bytes no_hash is under =
     let r = reading_of bytes in
     outcomes-alike s (with_secret_at realm name (Some secret)) (with_secret_at realm name None)
     from now bytes (record {
-      verdicts = λ nonce. verdict-unregistered realm.users name secret realm.feature nonce
-          (Some realm.offered) r no_hash is under;
+      verdicts = λ nonce. ap (unless_unoffered realm r)
+          (verdict-unregistered realm.users name secret realm.feature nonce (Some realm.offered) r
+          no_hash is under);
       keys = key-alike realm name r secret None under;
     })

@@ -2,16 +2,18 @@
 use Rattle.std.proofs.Common.{◌≡◌, ℕ, zero, suc, Bool, true, false, List, ◌∷◌, Option, Some, None}
 use Rattle.std.proofs.Common.{refl}
 use Rattle.std.proofs.Common.{◌∙◌, ap, Err}
-use Rattle.std.specs.Prelude.{drop}
+use Rattle.std.specs.Prelude.{cond, drop, ◌&&◌}
 use Rattle.std.specs.List.{find}
-use Rattle.std.specs.Option.{is_none, option_map_or}
+use Rattle.std.specs.Option.{is_none, is_some, option_map_or}
 use Rattle.std.specs.declared.net.socket_addr.SocketAddr.{SocketAddr}
 use Rattle.stun_base.specs.MessageType.{class_in}
+use Rattle.stun_base.specs.declared.keys.algorithm.IntegrityAlgorithm.{IntegrityAlgorithm}
 use Rattle.stun_base.specs.declared.wire.message_type.MessageClass.TheVariants.{Request}
-use Rattle.stun_judging.specs.Verdict.{or_before, ClientSeen, client_of, or_refused, refusals}
+use Rattle.stun_judging.specs.Verdict.{or_before, ClientSeen, client_of, is_unoffered, or_refused}
+use Rattle.stun_judging.specs.Verdict.{refusals, verdict}
 use Rattle.stun_judging.specs.Reading.{Reading, reading_of}
 use Rattle.stun_judging.specs.declared.refusal.VerdictRefusal.{VerdictRefusal}
-use Rattle.stun_judging.specs.declared.refusal.VerdictRefusal.TheVariants.{Unauthorized}
+use Rattle.stun_judging.specs.declared.refusal.VerdictRefusal.TheVariants.{Unauthorized, BadRequest}
 use Rattle.stun_endpoint.specs.Judged.{Realm, judged_under, or_previous, verdict_under}
 use Rattle.stun_endpoint.specs.Nonces.{current_nonce, epoch_of, nonce_in}
 use Rattle.stun_endpoint.specs.Received.{answered, by_class, by_verdict, challenge_answer}
@@ -33,7 +35,10 @@ module _ (s : Settings) (realm : Realm) (from : SocketAddr) (r : Reading)
     (none : r.integrity ≡ None) where
   unauthorized : (nonce : List ℕ) → verdict_under realm nonce r ≡ Err Unauthorized
   unauthorized nonce =
-      first_row (is_none r.integrity) Unauthorized
+      ap (λ (o : Option (List ℕ → Option IntegrityAlgorithm)).
+      cond (is_some o && is_unoffered realm.offered r) (Err BadRequest)
+      (verdict realm.users realm.feature nonce (Some realm.offered) r)) none
+      ∙ first_row (is_none r.integrity) Unauthorized
       (drop 1 (refusals realm.users realm.feature nonce (Some realm.offered) r))
       (client_of realm.users realm.feature nonce (Some realm.offered) r) (ap is_none none)
 

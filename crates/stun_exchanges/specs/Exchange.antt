@@ -15,7 +15,7 @@ use Rattle.stun_types.specs.Limits.{TEXT_LIMIT}
 use Rattle.stun_types.specs.Message.{refusal}
 use Rattle.stun_types.specs.Writing.{IsOpen}
 use Rattle.stun_judging.specs.Reading.{reading_of}
-use Rattle.stun_judging.specs.Registered.{UserSecret, name_cmp, name_with_hash, of_password}
+use Rattle.stun_judging.specs.Registered.{Registered, name_with_hash, of_password}
 use Rattle.stun_judging.specs.Verdict.{ClientSeen}
 use Rattle.stun_judging.specs.Signed.{ReadsAs}
 use Rattle.stun_exchanges.specs.Agreement.{AgreeOn, IsSignedAnswer, meant_by, offered_by}
@@ -28,9 +28,8 @@ use Rattle.stun_client.specs.Standing.{StandingSeen, is_ignored}
 use Rattle.stun_client.specs.declared.preferences.Preferences.{Preferences}
 use Rattle.stun_endpoint.specs.Answers.{Ending, Signature, is_fingerprinted, with_end}
 use Rattle.stun_endpoint.specs.Judged.{Realm, key_of_client, realm_of_user}
-use Rattle.stun_endpoint.specs.Lookups.{users_with}
 use Rattle.stun_endpoint.specs.Nonces.{current_nonce, epoch_of, nonce_in}
-use Rattle.stun_endpoint.specs.Received.{challenge_answer, outcome_of_accepted, received_by}
+use Rattle.stun_endpoint.specs.Received.{challenge_answer, outcome_of_accepted, received_for}
 use Rattle.stun_endpoint.specs.Received.{responding_of}
 use Rattle.stun_endpoint.specs.Refusals.{code_of}
 use Rattle.stun_endpoint.specs.Responding.{binding_by, drop_reason}
@@ -49,20 +48,18 @@ pub record IsServer (s : Settings) : Type 0 where
   pub realm_text : IsUtf8 s.realm
   pub software_fits : length (unwrap_or s.software []) ≤ TEXT_LIMIT
 
--- the secrets of the users of a server, and these users at its realm
-abbrev pub UserSecrets : Type 0
-UserSecrets = fin.FinMap name_cmp UserSecret
+-- what a server judges by if it is passed these users
+abbrev pub realm_knowing : Settings → Registered → Realm
+realm_knowing s users = realm_of_user s (Some users)
 
-abbrev pub realm_knowing : Settings → UserSecrets → Realm
-realm_knowing s users = realm_of_user s (Some (users_with s users))
-
--- a user is registered with this password, and is found by the hash of the name: no earlier user,
--- in the order of names, has the same hash
-pub record IsRegisteredUser (s : Settings) (users : UserSecrets)
+-- a user is registered with this password in a table of the server's realm, which may be made for
+-- any algorithms. The user is found by the hash of the name: no earlier user, in the order of
+-- names, has the same hash
+pub record IsRegisteredUser (s : Settings) (users : Registered)
     (who : NameAndPassword) : Type 0 where
-  pub registered : fin.get users who.username ≡ Some (of_password who.password)
-  pub hashed : name_with_hash (users_with s users) (userhash_of who.username s.realm)
-      ≡ Some who.username
+  pub realm : users.realm ≡ s.realm
+  pub registered : fin.get users.secrets who.username ≡ Some (of_password who.password)
+  pub hashed : name_with_hash users (userhash_of who.username s.realm) ≡ Some who.username
 
 -- the challenge that a server means with a nonce, to a client that uses an algorithm, as the client
 -- stores it
@@ -149,7 +146,7 @@ IsWithinPeriod s made now =
 -- it to its caller, or answers it itself
 abbrev pub SignedAreAccepted : Type 0
 SignedAreAccepted =
-    (s : Settings) (users : UserSecrets) (who : NameAndPassword) (p : Preferences)
+    (s : Settings) (users : Registered) (who : NameAndPassword) (p : Preferences)
     (a : IntegrityAlgorithm) (from : SocketAddr) (made now : ℕ) (bytes : List ℕ)
     (class : MessageClass) (error : Option ℕ) → AgreeOn p s.algorithms s.feature a
     → IsRegisteredUser s users who → IsWithinPeriod s made now
@@ -158,7 +155,7 @@ SignedAreAccepted =
     (added_under true (meant_by p who s.realm s.algorithms (current_nonce s from made) a))
     (reading_of bytes)
     → let client : ClientSeen = record { name = who.username; algorithm = a } in
-    received_by s (realm_knowing s users) from now bytes
+    received_for s (Some users) from now bytes
     ≡ outcome_of_accepted s (key_of_client (realm_knowing s users) client) from bytes client
 
 -- ---- the signed answer at the client

@@ -58,9 +58,10 @@ pub fn challenges_of_a_server_are_answered()
 /// Premises:
 ///
 /// - Both sides agree on an algorithm (`AgreeOn`).
-/// - The user is registered with this password (`IsRegisteredUser`), and no earlier user in the
-///   order of names has the same hash, so the server finds the user by the hash. No two texts with
-///   the same SHA-256 are known.
+/// - The user is registered with this password in the table that the server is passed
+///   (`IsRegisteredUser`). The table is of the server's realm, and may be made for any algorithms.
+///   No earlier user in the order of names has the same hash, so the server finds the user by the
+///   hash. No two texts with the same SHA-256 are known.
 /// - The request is not dropped.
 pub fn users_are_accepted_by_the_strongest()
     ensures { SignedAreAccepted }

@@ -9,7 +9,7 @@ ghost use Rattle.stun_base.specs.declared.wire.message_type.MessageClass.TheVari
 ghost use Rattle.stun_judging.specs.OtherUsers.{VerifiesUnderNone};
 ghost use Rattle.stun_judging.specs.Reading.{reading_of};
 ghost use Rattle.stun_judging.specs.Registered.{UserSecret};
-ghost use Rattle.stun_judging.specs.Verdict.{ClientSeen, IsAccepted};
+ghost use Rattle.stun_judging.specs.Verdict.{ClientSeen, IsAcceptedOffering};
 ghost use Rattle.stun_endpoint.specs.Judged.{Realm, key_of_client};
 ghost use Rattle.stun_endpoint.specs.Nonces.{current_nonce};
 ghost use Rattle.stun_endpoint.specs.Received.{answered, challenge_answer, outcome_of_accepted};
@@ -33,17 +33,18 @@ pub fn unsigned_requests_are_challenged()
 
 /// A client is accepted while its nonce lasts: in the epoch in which the server wrote the nonce,
 /// and in the next epoch. In these two epochs, a request that is not dropped has the outcome of an
-/// accepted request if it meets the following conditions (`IsAccepted` of `stun_auth`):
+/// accepted request if it meets the following conditions (`IsAcceptedOffering`):
 ///
 /// - It has a REALM.
 /// - Its nonce is the one that was current for its source when the server wrote the nonce.
-/// - Its algorithms agree with the server's.
+/// - Its algorithms agree with those that the server offers. A server that supports only HMAC-SHA1
+///   offers none, so the request then has neither a list of algorithms nor a choice.
 /// - Its signature is valid under the key of the registered user whom it names.
 pub fn clients_are_accepted_while_their_nonce_lasts()
     ensures { (s : Settings) (realm : Realm) (from : SocketAddr) (made now : ℕ) (bytes : List ℕ)
         (client : ClientSeen) → drop_reason s.requires_fingerprint bytes ≡ None
         → class_in bytes ≡ MessageClass.Request → IsWithinPeriod s made now
-        → IsAccepted realm.users realm.feature (current_nonce s from made) (Some realm.offered)
+        → IsAcceptedOffering realm.users realm.feature (current_nonce s from made) realm.offered
         (reading_of bytes) client
         → received_by s realm from now bytes
         ≡ outcome_of_accepted s (key_of_client realm client) from bytes client }

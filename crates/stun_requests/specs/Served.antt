@@ -3,6 +3,7 @@ use Rattle.std.specs.Prelude.{◌≡◌, ◌<◌, ℕ, Bool, true, List, Some, N
 use Rattle.std.specs.declared.net.socket_addr.SocketAddr.{SocketAddr}
 use Rattle.stun_base.specs.Credentials.{NameAndPassword}
 use Rattle.stun_base.specs.declared.keys.algorithm.IntegrityAlgorithm.{IntegrityAlgorithm}
+use Rattle.stun_judging.specs.Registered.{Registered}
 use Rattle.stun_judging.specs.Verdict.{ClientSeen}
 use Rattle.stun_client.specs.Judging.{long_term}
 use Rattle.stun_client.specs.declared.preferences.Preferences.{Preferences}
@@ -11,12 +12,12 @@ use Rattle.stun_client_endpoint.specs.Written.{Form, request_bytes}
 use Rattle.stun_endpoint.specs.Judged.{Realm, key_of_client}
 use Rattle.stun_endpoint.specs.Nonces.{current_nonce}
 use Rattle.stun_endpoint.specs.Received.{answered, challenge_answer, outcome_of_accepted}
-use Rattle.stun_endpoint.specs.Received.{received_by}
+use Rattle.stun_endpoint.specs.Received.{received_by, received_for}
 use Rattle.stun_endpoint.specs.Settings.{Settings}
 use Rattle.stun_endpoint.specs.declared.received.Refusal.TheVariants.{Unauthenticated}
 use Rattle.stun_exchanges.specs.Agreement.{AgreeOn}
-use Rattle.stun_exchanges.specs.Exchange.{IsRegisteredUser, IsServer, IsWithinPeriod, UserSecrets}
-use Rattle.stun_exchanges.specs.Exchange.{meant_for, realm_knowing}
+use Rattle.stun_exchanges.specs.Exchange.{IsRegisteredUser, IsServer, IsWithinPeriod, meant_for}
+use Rattle.stun_exchanges.specs.Exchange.{realm_knowing}
 use Rattle.stun_requests.specs.ReadBack.{AreOrdinary}
 
 -- a client sends the FINGERPRINT that a server requires
@@ -38,7 +39,7 @@ RequestsAreChallenged =
 -- one
 abbrev pub RequestsAreAccepted : Type 0
 RequestsAreAccepted =
-    (s : Settings) (users : UserSecrets) (from : SocketAddr) (made now : ℕ) (form : Form)
+    (s : Settings) (users : Registered) (from : SocketAddr) (made now : ℕ) (form : Form)
     (who : NameAndPassword) (p : Preferences) (accepts_unsigned : Bool) (a : IntegrityAlgorithm)
     (method id : ℕ) (body : Body) (bytes : List ℕ) → IsServer s → IsRegisteredUser s users who
     → IsUtf8 who.username → AgreeOn p s.algorithms s.feature a → IsWithinPeriod s made now
@@ -46,5 +47,5 @@ RequestsAreAccepted =
     → request_bytes form (long_term who p accepts_unsigned)
     (Some (meant_for s p who (current_nonce s from made) a)) method id body ≡ Ok bytes
     → let client : ClientSeen = record { name = who.username; algorithm = a } in
-    received_by s (realm_knowing s users) from now bytes
+    received_for s (Some users) from now bytes
     ≡ outcome_of_accepted s (key_of_client (realm_knowing s users) client) from bytes client

@@ -64,8 +64,9 @@ pub fn requests_are_challenged()
 ///
 /// Premises, in addition to those of `requests_are_challenged`:
 ///
-/// - The user is registered with this password, and found by the hash of the name
-///   (`IsRegisteredUser`). The name is UTF-8, as each `str` is.
+/// - The user is registered with this password in the table of users that the server is passed,
+///   and found by the hash of the name (`IsRegisteredUser`). The table is of the server's realm,
+///   and may be made for any algorithms. The name is UTF-8, as each `str` is.
 /// - The server was built (`IsServer`).
 /// - Both sides agree on an algorithm (`AgreeOn`).
 pub fn requests_are_accepted()

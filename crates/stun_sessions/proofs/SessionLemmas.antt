@@ -15,7 +15,7 @@ use Rattle.stun_judging.specs.Algorithms.{is_sha256, same_algorithm}
 use Rattle.stun_judging.specs.Naming.{Naming, naming_of}
 use Rattle.stun_judging.specs.Nonces.{asks_for_userhash}
 use Rattle.stun_judging.specs.Reading.{has_visible_integrity, reading_of, verified_under}
-use Rattle.stun_judging.specs.Registered.{RegisteredUser, UserSecret, key_if, key_of}
+use Rattle.stun_judging.specs.Registered.{Registered, RegisteredUser, UserSecret, key_if, key_of}
 use Rattle.stun_judging.specs.Registered.{of_password, user_named}
 use Rattle.stun_judging.specs.Signed.{plain_name}
 use Rattle.stun_judging.specs.Feature.{is_possible}
@@ -24,12 +24,13 @@ use Rattle.stun_client.specs.Standing.{StandingSeen, after_answer, after_success
 use Rattle.stun_client.specs.Standing.{gives_way, is_ignored, is_standing, is_stronger_than}
 use Rattle.stun_client.specs.Standing.{is_weaker_than}
 use Rattle.stun_client.specs.declared.preferences.Preferences.{Preferences}
-use Rattle.stun_endpoint.specs.Judged.{key_of_client}
+use Rattle.stun_endpoint.specs.Judged.{Realm, key_of_client}
 use Rattle.stun_endpoint.specs.Lookups.{users_with}
 use Rattle.stun_endpoint.specs.Nonces.{current_nonce, epoch_of, nonce_in}
 use Rattle.stun_endpoint.specs.Settings.{Settings}
 use Rattle.stun_exchanges.specs.Agreement.{AgreeOn}
-use Rattle.stun_exchanges.specs.Exchange.{IsRegisteredUser, UserSecrets, meant_for, realm_knowing}
+use Rattle.stun_exchanges.specs.Exchange.{IsRegisteredUser, meant_for, realm_knowing}
+use Rattle.stun_endpoint.proofs.RealmLemmas.{realm_of_own}
 use Rattle.stun_exchanges.proofs.AgreementLemmas.{supported_is}
 use Rattle.stun_sessions.specs.Sessions.{IsConfirmedBy, IsMeantHere, IsNotUnder, client_named}
 use Rattle.stun_sessions.proofs.StaleLemmas.{other_bytes}
@@ -61,7 +62,7 @@ decides bytes key a is = decides_if bytes key (has_visible_integrity bytes) a is
 
 -- ---- the key of the user
 
-pub key_again : (s : Settings) (users : UserSecrets) (who : NameAndPassword) (p : Preferences)
+pub key_again : (s : Settings) (users : Registered) (who : NameAndPassword) (p : Preferences)
     (a : IntegrityAlgorithm) → IsRegisteredUser s users who → AgreeOn p s.algorithms s.feature a
     → key_of_client (realm_knowing s users) (client_named who a)
     ≡ long_term_key a who.username s.realm who.password
@@ -70,11 +71,14 @@ key_again s users who p a known agree =
       username = who.username;
       secret = of_password who.password;
     } in
-    let named : user_named (users_with s users) who.username ≡ Some user =
+    let here = users_with s users.secrets in
+    let named : user_named here who.username ≡ Some user =
     ap (option_map (λ (secret : UserSecret). record { username = who.username; secret = secret }))
     known.registered in
-    ap (λ o. unwrap_or (option_and_then
-    (λ (user : RegisteredUser). key_of (users_with s users) user a) o) []) named
+    ap (λ (realm : Realm). key_of_client realm (client_named who a))
+    (realm_of_own s users known.realm)
+    ∙ ap (λ o. unwrap_or (option_and_then
+    (λ (user : RegisteredUser). key_of here user a) o) []) named
     ∙ ap (λ b. unwrap_or (key_if b a who.username s.realm (of_password who.password)) [])
     (supported_is p s.algorithms a agree.first)
 

@@ -11,9 +11,11 @@ use Rattle.std.proofs.lemmas.Slice.Eq.{bytes_eq-Decides}
 use Rattle.stun_base.specs.MessageType.{class_in}
 use Rattle.stun_base.specs.declared.keys.algorithm.IntegrityAlgorithm.{IntegrityAlgorithm}
 use Rattle.stun_base.specs.declared.wire.message_type.MessageClass.TheVariants.{Request}
-use Rattle.stun_judging.specs.Verdict.{or_before, ClientSeen, IsAccepted, agreement, bits_differ}
+use Rattle.stun_judging.specs.Verdict.{or_before, ClientSeen, IsAccepted, IsAcceptedOffering}
+use Rattle.stun_judging.specs.Verdict.{agreement, bits_differ}
 use Rattle.stun_judging.specs.Verdict.{client_of, named_by, nonce_refusal, or_refused, refusals}
-use Rattle.stun_judging.specs.Verdict.{their_nonce}
+use Rattle.stun_judging.specs.Verdict.{their_nonce, verdict}
+use Rattle.stun_judging.proofs.Accepting.{offering_as_all}
 use Rattle.stun_judging.specs.Nonces.{security_bits}
 use Rattle.stun_judging.specs.Reading.{Reading, reading_of}
 use Rattle.stun_judging.specs.Registered.{Registered, RegisteredUser}
@@ -21,7 +23,8 @@ use Rattle.stun_judging.specs.declared.feature.Feature.{Feature}
 use Rattle.stun_judging.specs.declared.refusal.VerdictRefusal.{VerdictRefusal}
 use Rattle.stun_judging.specs.declared.refusal.VerdictRefusal.TheVariants.{Unauthorized, BadRequest}
 use Rattle.stun_judging.specs.declared.refusal.VerdictRefusal.TheVariants.{StaleNonce}
-use Rattle.stun_endpoint.specs.Judged.{Realm, judged_under, or_previous, verdict_under}
+use Rattle.stun_endpoint.specs.Judged.{Realm, judged_under, or_previous}
+use Rattle.stun_endpoint.specs.Judged.{verdict_under}
 use Rattle.stun_endpoint.specs.Nonces.{current_nonce, epoch_of, nonce_in, security_bytes}
 use Rattle.stun_endpoint.specs.Received.{answered, by_class, by_verdict, challenge_answer}
 use Rattle.stun_endpoint.specs.Received.{received_by, unless_dropped}
@@ -63,18 +66,22 @@ module _ (s : Settings)
     → security_bits (nonce_in s secret from epoch)
     ≡ Some (security_bytes s.algorithms s.feature))
     (realm : Realm) (from : SocketAddr) (r : Reading) (client : ClientSeen) (made : ℕ)
-    (is : IsAccepted realm.users realm.feature (current_nonce s from made) (Some realm.offered) r
-    client) where
+    (accepted : IsAcceptedOffering realm.users realm.feature (current_nonce s from made)
+    realm.offered r client) where
   abbrev before : List ℕ
   before = current_nonce s from made
+
+  abbrev is : IsAccepted realm.users realm.feature before (Some realm.offered) r client
+  is = accepted.accepted
 
   theirs_is : their_nonce r ≡ before
   theirs_is = ap (λ n. unwrap_or n []) is.nonce
 
   -- the fifth row decides
-  fifth : (ours : List ℕ) → before ≢ ours
-      → verdict_under realm ours r ≡ Err (nonce_refusal ours (their_nonce r))
-  fifth ours other =
+  fifth_row : (ours : List ℕ) → before ≢ ours
+      → verdict realm.users realm.feature ours (Some realm.offered) r
+      ≡ Err (nonce_refusal ours (their_nonce r))
+  fifth_row ours other =
       let one = has_digest r.integrity is.key is.digest in
       let two = has_some r.realm is.realm in
       let three = has_name r.userhash r.username realm.users realm.feature
@@ -90,6 +97,12 @@ module _ (s : Settings)
       ∷ (four i, BadRequest) ∷ (five i, nonce_refusal ours (their_nonce r))
       ∷ drop 5 (refusals realm.users realm.feature ours (Some realm.offered) r))) None)
       (client_of realm.users realm.feature ours (Some realm.offered) r)
+
+  fifth : (ours : List ℕ) → before ≢ ours
+      → verdict_under realm ours r ≡ Err (nonce_refusal ours (their_nonce r))
+  fifth ours other =
+      offering_as_all realm.users realm.feature ours realm.offered r accepted.offered
+      ∙ fifth_row ours other
 
   -- the nonces of a server have the same security bits
   same_bits : (secret : List ℕ) (epoch : ℕ)
@@ -125,7 +138,7 @@ pub forgotten_is_stale : (s : Settings)
     ≡ Some (security_bytes s.algorithms s.feature))
     → (realm : Realm) (from : SocketAddr) (made now : ℕ) (bytes : List ℕ) (client : ClientSeen)
     → drop_reason s.requires_fingerprint bytes ≡ None → class_in bytes ≡ Request
-    → IsAccepted realm.users realm.feature (current_nonce s from made) (Some realm.offered)
+    → IsAcceptedOffering realm.users realm.feature (current_nonce s from made) realm.offered
     (reading_of bytes) client
     → IsForgotten s from made now
     → received_by s realm from now bytes

@@ -8,7 +8,8 @@ use Rattle.stun_base.specs.MessageType.{class_in}
 use Rattle.stun_base.specs.declared.keys.algorithm.IntegrityAlgorithm.{IntegrityAlgorithm}
 use Rattle.stun_base.specs.declared.wire.message_type.MessageClass.TheVariants.{Request}
 use Rattle.stun_judging.specs.Reading.{reading_of}
-use Rattle.stun_judging.specs.Verdict.{ClientSeen, IsAccepted}
+use Rattle.stun_judging.specs.Registered.{Registered}
+use Rattle.stun_judging.specs.Verdict.{ClientSeen, IsAcceptedOffering}
 use Rattle.stun_judging.specs.Signed.{ReadsAs}
 use Rattle.stun_client.specs.Challenge.{added_under}
 use Rattle.stun_client.specs.Challenges.{Answered, is_one}
@@ -18,13 +19,13 @@ use Rattle.stun_client.specs.declared.preferences.Preferences.{Preferences}
 use Rattle.stun_endpoint.specs.Judged.{Realm, key_of_client}
 use Rattle.stun_endpoint.specs.Nonces.{current_nonce, epoch_of, nonce_in}
 use Rattle.stun_endpoint.specs.Received.{answered, challenge_answer, outcome_of_accepted}
-use Rattle.stun_endpoint.specs.Received.{received_by}
+use Rattle.stun_endpoint.specs.Received.{received_by, received_for}
 use Rattle.stun_endpoint.specs.Responding.{drop_reason}
 use Rattle.stun_endpoint.specs.Settings.{Settings}
 use Rattle.stun_endpoint.specs.declared.received.Refusal.TheVariants.{StaleNonce}
 use Rattle.stun_exchanges.specs.Agreement.{AgreeOn, meant_by}
 use Rattle.stun_exchanges.specs.Exchange.{IsRegisteredUser, IsServer, IsWithinPeriod, SendsRequired}
-use Rattle.stun_exchanges.specs.Exchange.{UserSecrets, meant_for, realm_knowing}
+use Rattle.stun_exchanges.specs.Exchange.{meant_for, realm_knowing}
 use Rattle.stun_sessions.specs.Responses.{IsShortRequest, OutcomeEnds}
 
 -- ---- the nonce has expired
@@ -51,7 +52,7 @@ ForgottenAreStale =
     (s : Settings) (realm : Realm) (from : SocketAddr) (made now : ℕ) (bytes : List ℕ)
     (client : ClientSeen) → drop_reason s.requires_fingerprint bytes ≡ None
     → class_in bytes ≡ Request
-    → IsAccepted realm.users realm.feature (current_nonce s from made) (Some realm.offered)
+    → IsAcceptedOffering realm.users realm.feature (current_nonce s from made) realm.offered
     (reading_of bytes) client
     → IsForgotten s from made now
     → received_by s realm from now bytes
@@ -61,7 +62,7 @@ ForgottenAreStale =
 
 -- a request of a registered user reads as signed for the challenge which the server means with the
 -- nonce that was current at a time. Its client requires FINGERPRINT or does not
-pub record IsInSession (s : Settings) (users : UserSecrets) (who : NameAndPassword)
+pub record IsInSession (s : Settings) (users : Registered) (who : NameAndPassword)
     (p : Preferences) (a : IntegrityAlgorithm) (from : SocketAddr) (made : ℕ) (required : Bool)
     (bytes : List ℕ) : Type 0 where
   pub built : IsServer s
@@ -83,14 +84,13 @@ client_named who a = record { name = who.username; algorithm = a }
 -- with the key of the challenge
 abbrev pub OneExchangeEach : Type 0
 OneExchangeEach =
-    (s : Settings) (users : UserSecrets) (who : NameAndPassword) (p : Preferences)
+    (s : Settings) (users : Registered) (who : NameAndPassword) (p : Preferences)
     (a : IntegrityAlgorithm) (from : SocketAddr) (made now : ℕ) (required : Bool) (bytes : List ℕ)
     → IsInSession s users who p a from made required bytes → IsWithinPeriod s made now
-    → let realm = realm_knowing s users in
-    let outcome = received_by s realm from now bytes in
+    → let outcome = received_for s (Some users) from now bytes in
     let challenge = meant_for s p who (current_nonce s from made) a in
-    (outcome ≡ outcome_of_accepted s (key_of_client realm (client_named who a)) from bytes
-    (client_named who a))
+    (outcome ≡ outcome_of_accepted s (key_of_client (realm_knowing s users) (client_named who a))
+    from bytes (client_named who a))
     × OutcomeEnds required bytes challenge.challenge.key a outcome
 
 -- ---- which challenge new requests are signed for

@@ -27,7 +27,9 @@ pub fn forgotten_nonces_are_stale()
 ///
 /// Premises (`IsInSession`):
 ///
-/// - The server was built, and the user is registered with it and found by the hash of the name.
+/// - The server was built. The user is registered in the table of users that the server is passed,
+///   and found by the hash of the name. The table is of the server's realm, and may be made for any
+///   algorithms.
 /// - Client and server agree on an algorithm.
 /// - The request is signed for the challenge that the server intended, and is not dropped. It has
 ///   at most 65,552 bytes and a transaction ID of 96 bits.

@@ -26,13 +26,14 @@ use Rattle.stun_client_calls.specs.Options.{Options, address_by, identity_by}
 use Rattle.stun_client_calls.specs.Runs.{Calls, Event, next_number}
 use Rattle.stun_client_runs.specs.Sent.{IsSentAs, asking}
 use Rattle.stun_client_runs.proofs.KeptLemmas.{started_is}
-use Rattle.stun_endpoint.specs.Lookups.{users_with}
+use Rattle.stun_judging.specs.Registered.{Registered}
 use Rattle.stun_endpoint.specs.Nonces.{current_nonce, epoch_of, words_of}
 use Rattle.stun_endpoint.specs.Received.{challenge_answer}
-use Rattle.stun_endpoint.specs.Settings.{Settings}
+use Rattle.stun_endpoint.specs.Settings.{Settings, registered_of}
+use Rattle.stun_endpoint.proofs.RealmLemmas.{own_realm, received_of_own}
 use Rattle.stun_endpoint.specs.declared.received.Refusal.TheVariants.{StaleNonce, Unauthenticated}
 use Rattle.stun_exchanges.specs.Agreement.{IsSignedAnswer}
-use Rattle.stun_exchanges.specs.Exchange.{UserSecrets, realm_knowing}
+use Rattle.stun_exchanges.specs.Exchange.{realm_knowing}
 use Rattle.stun_exchanges.proofs.AgreedLemmas.{accepted_again}
 use Rattle.stun_sessions.specs.Sessions.{client_named}
 use Rattle.stun_sessions.proofs.SessionLemmas.{is_another}
@@ -129,7 +130,7 @@ judges_as later asked response identity is =
     response) is
 
 -- each message for a challenge of the server can be written
-page_for : (g : goal.After-requests_can_be_written) (s : Settings) (users : UserSecrets)
+page_for : (g : goal.After-requests_can_be_written) (s : Settings) (users : Registered)
     (side : ClientSide) (a : IntegrityAlgorithm) (method : ℕ) (body : Body) (from : SocketAddr)
     (time id : ℕ) (signed_for : Option Answered) (bytes : List ℕ) → CanMeet s users side a
     → method < 4096 → IsBuiltBody body
@@ -153,7 +154,7 @@ page_for g s users side a method body from time id signed_for bytes meet low bui
     (short_challenge s prefers who nonce a meet.built meet.short fits)
 
 -- what is read of a message that is signed for a challenge of the server
-signed_read : (g : goal.After-requests_can_be_written) (s : Settings) (users : UserSecrets)
+signed_read : (g : goal.After-requests_can_be_written) (s : Settings) (users : Registered)
     (side : ClientSide) (a : IntegrityAlgorithm) (method : ℕ) (body : Body) (from : SocketAddr)
     (time id : ℕ) (bytes : List ℕ) → CanMeet s users side a → method < 4096 → IsBuiltBody body
     → request_bytes side.form (long_term side.who side.preferences side.accepts_unsigned)
@@ -193,7 +194,8 @@ returns g = λ s users from side a c later method body options start events byte
           let known = known_of side c later method body options bytes None of meetable
           unsigned
           (sent_as unsigned.asked unsigned.stored) in
-          g.requests_are_challenged.ensures s (realm_knowing s users) from time side.form who
+          received_of_own s (Some users) from time bytes (own_realm s users meet.known.realm)
+          ∙ g.requests_are_challenged.ensures s (realm_knowing s users) from time side.form who
           prefers
           accepts method known.id body bytes low ordinary meet.printed known.written;
       renewed = λ time now memory unsigned can strong.
@@ -250,7 +252,7 @@ returns g = λ s users from side a c later method body options start events byte
           let read = signed_read g s users side a method body from time known.id bytes meet low
           built
           known.written in
-          let up_to_date = g.nonces_of_a_server_are_up_to_date.ensures.marked (users_with s users)
+          let up_to_date = g.nonces_of_a_server_are_up_to_date.ensures.marked (registered_of s)
           s.feature in
           let accepted_so = accepted_again s users who meet.known prefers (current_nonce s from
           time) a
@@ -258,7 +260,8 @@ returns g = λ s users from side a c later method body options start events byte
           (up_to_date (map letter (words_of s.algorithms s.secret from (epoch_of s time))))
           meet.agree
           read.reads in
-          g.forgotten_nonces_are_stale.ensures s (realm_knowing s users) from time now bytes
+          received_of_own s (Some users) from now bytes (own_realm s users meet.known.realm)
+          ∙ g.forgotten_nonces_are_stale.ensures s (realm_knowing s users) from time now bytes
           (client_named who a)
           (undropped s side.form method (added_to (Some (challenge_at s side a from time))) bytes
           meet.printed read)

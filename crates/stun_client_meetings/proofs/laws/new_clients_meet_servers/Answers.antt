@@ -16,7 +16,7 @@ use Rattle.stun_client.specs.Judging.{long_term}
 use Rattle.stun_client_calls.specs.Clients.{started}
 use Rattle.stun_client_calls.specs.NewClients.{made_of}
 use Rattle.stun_client_calls.specs.Runs.{no_call}
-use Rattle.stun_endpoint.specs.Lookups.{users_with}
+use Rattle.stun_endpoint.specs.Settings.{registered_of}
 use Rattle.stun_endpoint.specs.Nonces.{current_nonce, epoch_of, words_of}
 use Rattle.stun_exchanges.specs.Instance.{example_user, example_users}
 use Rattle.stun_exchanges.proofs.Ascii.{from_small}
@@ -93,7 +93,7 @@ example_meets c false secret server =
         realm_text = it.0.realm_text;
         software_fits = it.0.software_fits;
       };
-      known = record { registered = it.1.registered; hashed = it.1.hashed };
+      known = record { realm = it.1.realm; registered = it.1.registered; hashed = it.1.hashed };
       text = IsUtf8-from_ascii example_user.username (from_small example_user.username refl);
       short = omega arith;
       agree = record { first = it.2.first; hashes = λ must. cc };
@@ -133,12 +133,12 @@ example_name : (g : goal.After-requests_can_be_written) (hashes : Bool) (secret 
     ≡ cond hashes None (Some example_user.username)
 example_name g true secret from server time =
     let s = example_server true secret in
-    let up_to_date = g.nonces_of_a_server_are_up_to_date.ensures.marked (users_with s example_users)
+    let up_to_date = g.nonces_of_a_server_are_up_to_date.ensures.marked (registered_of s)
     s.feature (map letter (words_of s.algorithms s.secret from (epoch_of s time))) in
     example_named true (asks_for_userhash (current_nonce s from time)) s.realm up_to_date.hashes
 example_name g false secret from server time =
     let s = example_server false secret in
-    let up_to_date = g.nonces_of_a_server_are_up_to_date.ensures.marked (users_with s example_users)
+    let up_to_date = g.nonces_of_a_server_are_up_to_date.ensures.marked (registered_of s)
     s.feature (map letter (words_of s.algorithms s.secret from (epoch_of s time))) in
     example_named false (asks_for_userhash (current_nonce s from time)) s.realm up_to_date.hashes
 

@@ -1017,8 +1017,7 @@ STUNP_NOT_NULL(1, 2)
 int64_t stunp_endpoint_users_new_own(stunp_endpoint_users *users, stunp_endpoint_server *server);
 
 /* Creates an empty table of users for a server with long-term or short-term credentials. With
- * long-term credentials, use the table only with servers that have the same `realm`, `algorithms`
- * and `anonymous_username`.
+ * long-term credentials, the table is for every server of the same `realm`.
  *
  * Returns 0. Errors:
  *   STUNP_FULL_HANDLE    the table's handle is not empty
@@ -1119,7 +1118,8 @@ int64_t stunp_endpoint_server_receive_own(stunp_endpoint_server *server,
  * `out`.
  *
  *   - A datagram is dropped if it is not a STUN message, if its FINGERPRINT is wrong, or if it has
- *     no FINGERPRINT although the settings require it.
+ *     no FINGERPRINT although the settings require it. With long-term credentials, it is dropped if
+ *     `users` is for another `realm` than the server.
  *   - With long-term credentials, a request is answered with a 401 if none of these users has
  *     signed it, or if its nonce has other security bits than the server's nonces, and its
  *     algorithms agree with these other bits. It is answered with a 438 if its nonce is not

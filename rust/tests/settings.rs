@@ -219,3 +219,20 @@ fn users_of_another_realm_are_dropped_by_name() {
         Received::Dropped(DropReason::OtherRealm)
     ));
 }
+
+/// A server that answers unsigned Binding requests needs no users for these.
+#[test]
+fn unsigned_binding_requests_need_no_users() {
+    let from = at("203.0.113.9:4000");
+    let settings = LongTerm::new("realm", [1; 32]).open_binding(true);
+    let server = Server::builder(settings).build().unwrap();
+    let (table, _) = users_of(&server_of("other", &[Sha256]));
+    let unsigned = Message::builder_request(BINDING, MessageWriteVec::new()).finish();
+    assert!(is_accepted(&server.receive(&unsigned, from, now(), &table)));
+    let signed = request(&server.nonce_for(from, now()), Sha1, None);
+    let received = server.receive(&signed, from, now(), &table);
+    assert!(matches!(
+        received,
+        Received::Dropped(DropReason::OtherRealm)
+    ));
+}

@@ -487,7 +487,7 @@ static void users_of_other_servers(void) {
     want("both", judge(&mixed, &good, NOW, sizeof out, &received), STUNP_IS_REQUEST);
     want("algorithm", received.algorithm, STUNP_SHA256);
     mixed.server = weaker.server, mixed.users = realm.users;
-    want("a list", cause_of(&mixed, &good, &from, NOW, 438), STUNP_CAUSE_OTHER_ALGORITHMS);
+    want("a list", cause_of(&mixed, &good, &from, NOW, 438), STUNP_CAUSE_STALE_NONCE);
     take_challenge(&weaker, NOW);
     good = request(&weaker, 4, 0, false);
     want("HMAC-SHA1", judge(&mixed, &good, NOW, sizeof out, &received), STUNP_IS_REQUEST);

@@ -18,8 +18,7 @@ use stun_handles::answers;
 use stun_numbers::refusal::Refusal;
 
 /// Creates an empty table of users for a server with long-term or short-term credentials. With
-/// long-term credentials, use the table only with servers that have the same `realm`, `algorithms`
-/// and `anonymous_username`.
+/// long-term credentials, the table is for every server of the same `realm`.
 ///
 /// Fails with `FullHandle` if the table's handle is not empty, then with `EmptyHandle` if the
 /// server's handle is empty, then with `WrongHandle` if the server's handle has no server or has a

@@ -587,10 +587,11 @@ typedef enum stunp_drop {
                                        * after the start of the request (`transmissions` of
                                        * stunp_endpoint_client_settings). The client no longer
                                        * answers challenges to this request */
-    STUNP_DROP_REFUSED = 15           /* the response repeats the challenge for which the request is
-                                       * signed. The request is retransmitted when its timer is due,
-                                       * and ends with STUNP_RESULT_UNAUTHORIZED if the challenge
-                                       * arrives again after that */
+    STUNP_DROP_REFUSED = 15           /* the response repeats the challenge for which the current
+                                       * message of the request is signed. This message is
+                                       * retransmitted when its timer is due, and the request ends
+                                       * if the challenge arrives again after that, unless another
+                                       * message has become the current one in between */
 } stunp_drop;
 
 /* Why a server with long-term credentials refuses a request: the first check that fails. The checks
@@ -1670,17 +1671,27 @@ STUNP_INLINED uint64_t stunp_ice_consent_until(const stunp_ice_consent *consent,
  *
  *   - A challenge for which the current message is not signed: the client answers it with a message
  *     that is signed for this challenge. But the client drops a challenge that is weaker than an
- *     earlier challenge that a success response has confirmed (STUNP_DROP_WEAKER_CHALLENGE).
+ *     earlier challenge that a success response has confirmed (STUNP_DROP_WEAKER_CHALLENGE): one
+ *     that asks for HMAC-SHA1 in place of HMAC-SHA256, or for the name in place of its hash. So two
+ *     challenges can each be weaker than the other. If a signed 438 has no list of algorithms, or a
+ *     malformed one, the client uses the list of the challenge before.
  *   - A challenge for which the current message is already signed: the client drops it
  *     (STUNP_DROP_REFUSED), and retransmits the message when its timer is due. If the challenge
- *     arrives once more after that, the request ends. Over a stream, where nothing is
- *     retransmitted, the request ends when the challenge first arrives.
+ *     arrives once more after that, the request ends, unless another message became the current
+ *     one in between. Over a stream, where nothing is retransmitted, the request ends when the
+ *     challenge first arrives.
  *   - An unsigned error 400, 437 or 441 to a signed message: it may be forged, so it does not end
  *     the request. Instead, the client sends another message of the request, or an unsigned message
  *     if there is no other message. Likewise, after an unsigned 437 to the unsigned message, the
  *     client sends a signed message in its place. The client does this at most three times for one
  *     request. After that, or if there is no other message to send, the error is dropped
- *     (STUNP_DROP_NOT_VERIFIED). */
+ *     (STUNP_DROP_NOT_VERIFIED). Of several other messages, the client sends the one that it wrote
+ *     last. The next requests are then signed for the challenge of that message, so an unsigned
+ *     437, which anybody can send, can change this challenge.
+ *
+ * After the first plan of a request, the client answers no challenge to it, but a challenge that
+ * arrives exactly at the end of this plan is still answered. A request that is never polled within
+ * its first plan ends without being sent. */
 
 /* The longest body of a request, in bytes. The attributes that the client adds to such a body still
  * fit into a message, unless the server's list of algorithms is very long. In that case
@@ -1719,16 +1730,17 @@ enum { STUNP_BODY_MAX = 60000 };
  *                       sends the name
  *   challenges          how often another message of a request may take the place of the current
  *                       one, because of a challenge or an unsigned error. By default 6 times. After
- *                       that, the next challenge ends the request with STUNP_RESULT_UNAUTHORIZED,
- *                       and the next unsigned error is dropped. A restart of the server, a new
- *                       address of the client, an expired nonce and a forged challenge each count
- *                       as one replacement. A wrong password ends a request earlier. If the server
- *                       repeats the nonce for which the request is signed, the request ends at the
- *                       second refusal (over a stream, at the first). If the server sends a new
- *                       nonce each time, the request ends at the third 401 with a new nonce. So if
- *                       the server repeats the nonce, the first request of a client with a wrong
- *                       password takes three datagrams, and the last two of them are equal.
- *                       Otherwise it takes four datagrams
+ *                       that, the next challenge ends the request, with STUNP_RESULT_UNAUTHORIZED
+ *                       if it is a 401 to a signed message and otherwise with
+ *                       STUNP_RESULT_TOO_MANY_CHALLENGES, and the next unsigned error is dropped. A
+ *                       restart of the server, a new address of the client, an expired nonce and a
+ *                       forged challenge each count as one replacement. A wrong password ends a
+ *                       request earlier. If the server repeats the nonce for which the request is
+ *                       signed, the request ends at the second refusal (over a stream, at the
+ *                       first). If the server sends a new nonce each time, the request ends at the
+ *                       third 401 with a new nonce. So if the server repeats the nonce, the first
+ *                       request of a client with a wrong password takes three datagrams, and the
+ *                       last two of them are equal. Otherwise it takes four datagrams
  *   initial             how long to wait after the first transmission of a request, in nanoseconds.
  *                       Each further wait is twice the wait before (section 6.2.1). By default
  *                       500000000 (500 ms)
@@ -1821,15 +1833,19 @@ typedef enum stunp_result {
                                       * error leads to this result too, for example a 401 because of
                                       * a wrong short-term password: see `dropped.code`. With
                                       * long-term credentials a 401 or 438 is a challenge instead */
-    STUNP_RESULT_UNAUTHORIZED = 5,   /* the server refuses the credentials, or challenges too often:
-                                      * the user name or the password is wrong, or an attacker
-                                      * forges challenges */
+    STUNP_RESULT_UNAUTHORIZED = 5,   /* a 401 refused a signed message of the request: the user
+                                      * name or the password is wrong, or an attacker forges
+                                      * challenges */
     STUNP_RESULT_NOT_UNDERSTOOD = 6, /* the response has an attribute that the client must
                                       * understand, but does not (section 6.3.3). The field
                                       * `not_understood` of stunp_event has the attribute's type */
     STUNP_RESULT_MALFORMED = 7,      /* the response is an error response without a well-formed
                                       * code */
-    STUNP_RESULT_CANCELLED = 8       /* you have called stunp_endpoint_client_cancel */
+    STUNP_RESULT_CANCELLED = 8,      /* you have called stunp_endpoint_client_cancel */
+    STUNP_RESULT_TOO_MANY_CHALLENGES = 9 /* the request was challenged too often, and the last
+                                      * challenge was not a 401 to a signed message: servers with
+                                      * different nonces have one address, or an attacker forges
+                                      * challenges */
 } stunp_result;
 
 /* The number of dropped responses to a request, and the last of them. Show this information to

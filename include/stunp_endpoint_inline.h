@@ -544,11 +544,11 @@ STUNP_INLINED const char *stunp_result_text(stunp_result result) {
     case STUNP_RESULT_REFUSED: return "refused by the server";
     case STUNP_RESULT_REDIRECTED: return "sent to another server";
     case STUNP_RESULT_TIMED_OUT: return "no answer in time";
-    case STUNP_RESULT_UNAUTHORIZED: 
-        return "the server refuses the credentials, or challenges too often";
+    case STUNP_RESULT_UNAUTHORIZED: return "the server refuses the credentials";
     case STUNP_RESULT_NOT_UNDERSTOOD: return "the response has an attribute that is not understood";
     case STUNP_RESULT_MALFORMED: return "the response is an error without a code";
     case STUNP_RESULT_CANCELLED: return "cancelled";
+    case STUNP_RESULT_TOO_MANY_CHALLENGES: return "the server challenges too often";
     default: return "the request has not ended";
     }
 }

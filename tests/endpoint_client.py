@@ -70,17 +70,26 @@ class Request:
         self.waits, self.at = [], 0
         # How often another message became the current one, at all and for doubts, and what was dropped.
         self.turns, self.doubts, self.drops = 0, 0, []
-        # Whether it was refused since it was sent last, and before, and how often it was sent again for
-        # another refusal.
-        self.is_refused = self.was_refused = False
+        # Whether the current message was sent since it became the current one, whether it was refused
+        # since it was sent last, and before, and how often a 401 by another challenge was answered.
+        self.is_sent = self.is_refused = self.was_refused = False
         self.others = 0
         # When the first plan ends.
         self.until = 0
 
     def note_sending(self):
-        """A refusal counts once for each time that the request is sent."""
+        """A refusal counts once for each time that the current message is sent."""
         self.was_refused |= self.is_refused
-        self.is_refused = False
+        self.is_sent, self.is_refused = True, False
+
+    def note_turn(self):
+        """What was refused before another message became the current one does not count."""
+        self.is_sent = self.is_refused = self.was_refused = False
+
+    def end_for(self, code):
+        """How a challenge with this code ends the request: by a 401 the server refuses a signature."""
+        is_signed = self.current.signed_for is not None
+        return "Unauthorized" if is_signed and code == 401 else "TooManyChallenges"
 
 
 class Settings:
@@ -272,7 +281,7 @@ class ClientStage:
         message.begun += 1
         request.waits = self.waits(request)
         request.at = self.stage.now + request.waits[0]
-        request.note_sending()
+        request.note_turn()
         self.unsent[request.number] = message.octets
 
     def waits(self, request):
@@ -429,9 +438,10 @@ class ClientStage:
         if isinstance(judged, Doubted):
             judged = self.doubted(request, judged.why)
         elif isinstance(judged, Refused) and judged.challenge is None:
-            judged = self.refused(request)
+            judged = self.refused(request, code_in(message))
         elif isinstance(judged, (Anew, Refused)):
-            judged = self.anew(request, judged.challenge, isinstance(judged, Refused))
+            judged = self.anew(request, judged.challenge, isinstance(judged, Refused),
+                               code_in(message))
         if isinstance(judged, Dropped):
             code = code_in(message) if kind & 0x10 else None
             request.drops.append((judged.why, code))
@@ -529,22 +539,22 @@ class ClientStage:
         return Challenge(realm, nonce, algorithms, algorithm,
                          may_hash and self.built.hashes != "disabled")
 
-    def refused(self, request):
-        """The challenge that a request is signed for is dropped. The second one that counts ends the
-        request, and so does the first if nothing is sent again."""
+    def refused(self, request, code):
+        """The challenge that the current message is signed for is dropped. The second one that counts
+        ends the request, and so does the first if nothing is sent again."""
         if self.built.is_stream or request.was_refused:
-            self.end(request, "Unauthorized")
+            self.end(request, request.end_for(code))
             return None
-        request.is_refused = True
+        request.is_refused |= request.is_sent
         return Dropped("Refused")
 
-    def anew(self, request, challenge, is_refusal):
+    def anew(self, request, challenge, is_refusal, code):
         """Sends a request by its message for a challenge, or ends it if that was done too often. After
         the first plan of the request the challenge is dropped."""
         if self.stage.now > request.until:
             return Dropped("LateChallenge")
         if request.turns >= self.built.most or is_refusal and request.others >= OTHERS:
-            self.end(request, "Unauthorized")
+            self.end(request, request.end_for(code))
             return None
         message = next((one for one in request.messages if one.signed_for == challenge), None)
         message = message or self.new_message(request, challenge)

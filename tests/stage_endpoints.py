@@ -38,7 +38,7 @@ REQUEST = {"from": ":0", "initial": 0, "longest": 0, "transmissions": 0, "last":
 CLIENT_FEATURES = {"auto": 0, "required": 1, "disabled": 2}
 CLIENT_ALGORITHMS = {"sha1": 1, "sha256": 2}
 # How a request ended, without what follows.
-RESULTS = {5: "Unauthorized", 7: "MalformedResponse", 8: "Cancelled"}
+RESULTS = {5: "Unauthorized", 7: "MalformedResponse", 8: "Cancelled", 9: "TooManyChallenges"}
 XOR_PEER_ADDRESS, ALTERNATE_SERVER, ALTERNATE_DOMAIN = 0x0012, 0x8023, 0x8003
 
 

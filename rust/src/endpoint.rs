@@ -349,9 +349,11 @@ pub enum DropReason {
     /// The client no longer answers challenges to this request, so that the request ends within two
     /// plans.
     LateChallenge,
-    /// The datagram repeats the challenge for which the request is signed. The client retransmits
-    /// the request when its timer fires. If the challenge arrives again after that, the request
-    /// ends with [`Unauthorized`](RequestError::Unauthorized).
+    /// The datagram repeats the challenge for which the current message of the request is signed.
+    /// The client retransmits this message when its timer fires. If the challenge arrives again
+    /// after that, the request ends, unless another message has become the current one in between:
+    /// with [`Unauthorized`](RequestError::Unauthorized) if the challenge is a 401, and with
+    /// [`TooManyChallenges`](RequestError::TooManyChallenges) if it is a 438.
     Refused,
     /// The datagram is a request or an indication with a method that you do not serve
     /// ([`ServerBuilder::methods`], [`ResponseSettings::methods`]; RFC 8489, section 6.3).

@@ -327,7 +327,7 @@ fn clients_record_each_end(trace: &Trace) {
         &mut mallory,
         Instant::ZERO,
         0,
-        "result=the server refuses the credentials, or challenges too often",
+        "result=the server refuses the credentials",
     );
 
     let mut anybody = Client::builder(there()).build([77; 32]).unwrap();

@@ -81,7 +81,7 @@ int main(void) {
     names(stunp_method_name, methods, COUNT(methods), 4096);
     texts(drop, STUNP_DROP_REFUSED);
     texts(stunp_cause_text, STUNP_CAUSE_UNKNOWN_ATTRIBUTE);
-    texts(result, STUNP_RESULT_CANCELLED);
+    texts(result, STUNP_RESULT_TOO_MANY_CHALLENGES);
 
     static const char password[] = "wonderland";
     const uint8_t *key = stunp_short_term_key(password);

@@ -122,7 +122,8 @@ static void require_same_event(const stunp_event *one, const stunp_event *other)
 static void end_request(const stunp_event *event) {
     require(event->request < asking.requests && !asking.has_ended[event->request],
             "a request ends that was not started, or twice");
-    require(event->result >= STUNP_RESULT_SUCCESS && event->result <= STUNP_RESULT_CANCELLED,
+    require(event->result >= STUNP_RESULT_SUCCESS
+                && event->result <= STUNP_RESULT_TOO_MANY_CHALLENGES,
             "another result");
     if (event->result == STUNP_RESULT_SUCCESS)
         require(stunp_class(out, event->length) == STUNP_SUCCESS, "a success that is none");

@@ -236,6 +236,7 @@ keeps_end : (e : RequestEnd) (v : Event) → Keeps (end_told e v) v
 keeps_end (how.Answered o by) v = (keeps_outcome o (record v { signed_by = integrity_number by })).0
 keeps_end (how.TimedOut drops) v = (refl, refl, refl, refl)
 keeps_end how.Unauthorized v = (refl, refl, refl, refl)
+keeps_end how.TooManyChallenges v = (refl, refl, refl, refl)
 keeps_end how.Cancelled v = (refl, refl, refl, refl)
 
 tells_outcome : (o : Outcome) (v : Event) → TellsOutcome o (outcome_told o v)
@@ -250,6 +251,7 @@ tells_end (how.Answered o by) v =
     ((keeps_outcome o (record v { signed_by = integrity_number by })).1, tells_outcome o _)
 tells_end (how.TimedOut drops) v = (refl, refl)
 tells_end how.Unauthorized v = refl
+tells_end how.TooManyChallenges v = refl
 tells_end how.Cancelled v = refl
 
 handed_out : (bytes out after : List ℕ) (count : ℕ) → nat_lt (length out) (length bytes) ≡ false

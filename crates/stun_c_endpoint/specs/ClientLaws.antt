@@ -8,6 +8,7 @@ use Rattle.stun_client_endpoint.specs.Bodies.{Body, is_reserved, of_peer, with_v
 use Rattle.stun_client_endpoint.specs.declared.ended.RequestEnd.{RequestEnd}
 use Rattle.stun_client_endpoint.specs.declared.ended.RequestEnd.TheVariants.{Answered, Cancelled}
 use Rattle.stun_client_endpoint.specs.declared.ended.RequestEnd.TheVariants.{TimedOut, Unauthorized}
+use Rattle.stun_client_endpoint.specs.declared.ended.RequestEnd.TheVariants.{TooManyChallenges}
 use Rattle.stun_client_endpoint.specs.declared.told.Received.{Received}
 use Rattle.stun_client_endpoint.specs.declared.told.Received.TheVariants.{Consumed, Dropped}
 use Rattle.stun_client_endpoint.specs.declared.told.Received.TheVariants.{Indication, NotOurs}
@@ -53,6 +54,7 @@ abbrev pub TellsEnd : RequestEnd → Event → Type 0
 TellsEnd (Answered outcome by) v = (v.signed_by ≡ integrity_number by) × TellsOutcome outcome v
 TellsEnd (TimedOut drops) v = (v.result ≡ 4) × (v.dropped ≡ drops_told drops)
 TellsEnd Unauthorized v = v.result ≡ 5
+TellsEnd TooManyChallenges v = v.result ≡ 9
 TellsEnd Cancelled v = v.result ≡ 8
 
 -- a caller reads what a poll of the library returns: the bytes of a request to send, the end of a

@@ -18,6 +18,7 @@ use Rattle.stun_client_endpoint.specs.declared.ended.Drops.{Drops}
 use Rattle.stun_client_endpoint.specs.declared.ended.RequestEnd.{RequestEnd}
 use Rattle.stun_client_endpoint.specs.declared.ended.RequestEnd.TheVariants.{Answered, Cancelled}
 use Rattle.stun_client_endpoint.specs.declared.ended.RequestEnd.TheVariants.{TimedOut, Unauthorized}
+use Rattle.stun_client_endpoint.specs.declared.ended.RequestEnd.TheVariants.{TooManyChallenges}
 use Rattle.stun_c_endpoint.specs.Told.{FAILED, integrity_number}
 use Rattle.stun_c_endpoint.specs.declared.client.event.Dropped.{Dropped}
 use Rattle.stun_c_endpoint.specs.declared.client.event.Event.{Event}
@@ -116,6 +117,7 @@ end_told (Answered outcome by) e =
     outcome_told outcome (record e { signed_by = integrity_number by })
 end_told (TimedOut drops) e = record e { result = 4; dropped = drops_told drops }
 end_told Unauthorized e = record e { result = 5 }
+end_told TooManyChallenges e = record e { result = 9 }
 end_told Cancelled e = record e { result = 8 }
 
 -- which request has ended, and how, the length of the response that ended it, and the round trip

@@ -48,8 +48,8 @@ use stun_types::message::{IntegrityAlgorithm, LongTermCredentials, Message, Prep
 /// 3. The user name is sent as a hash if the nonce allows hashes and the client's preferences do
 ///    too. A client that must send a hash ignores a nonce that does not allow hashes.
 ///
-/// An earlier message matters in one case only: if a 438 has no list, and is signed with the key of
-/// the challenge before it, the list of that earlier challenge is used. So an attacker who forges
+/// An earlier message matters in one case only: if a 438 has no list, or a malformed one, and is
+/// signed with the key of the challenge before it, the list of that earlier challenge is used. So an attacker who forges
 /// challenges cannot make the client send a request that the real server accepts with a weaker
 /// algorithm than the strongest one that both sides support.
 ///
@@ -99,8 +99,8 @@ impl<A: Memory> Challenge<A> {
     /// `None` if the message is not a challenge, or if the rule ignores it (see `Challenge`).
     ///
     /// `before` is the challenge that the request was signed for. It matters only for a 438 without
-    /// a list of algorithms: if the 438 is signed with the key of `before`, the list of `before` is
-    /// used.
+    /// a well-formed list of algorithms: if the 438 is signed with the key of `before`, the list of
+    /// `before` is used.
     ///
     /// Fails if an allocation fails. It allocates only for a challenge that the rule does not
     /// ignore.
@@ -225,8 +225,8 @@ fn copy_list<A: Memory>(alloc: A, nonce: &str, list: &[u8]) -> Result<Vec<u8, A>
 }
 
 /// Returns the list from which the algorithm is chosen. This is the list of the message, with one
-/// exception: if the message is a 438 without a list, and is signed with the key of the challenge
-/// `before`, it is the list of that challenge.
+/// exception: if the message is a 438 without a well-formed list, and is signed with the key of the
+/// challenge `before`, it is the list of that challenge.
 fn choose_list<'a, A: Allocator>(
     before: Option<&'a Challenge<A>>,
     message: &Message<'a>,
@@ -352,7 +352,8 @@ impl<A: Allocator + Copy> Challenge<A> {
 
     /// Returns whether a request that is signed for this challenge is less protected than a request
     /// that is signed for `other`: by HMAC-SHA1 instead of HMAC-SHA256, or with the user name in
-    /// clear instead of a hash.
+    /// clear instead of a hash. Two challenges can each be weaker than the other: one for
+    /// HMAC-SHA256 with the name, and one for HMAC-SHA1 with a hash.
     pub fn is_weaker_than(&self, other: &Challenge<A>) -> bool
         ensures { result ≡ is_weaker self.now.challenge other.now.challenge }
     {

@@ -23,7 +23,7 @@ use Rattle.stun_client_endpoint.specs.declared.ended.DropReason.TheVariants.{Lat
 use Rattle.stun_client_endpoint.specs.declared.ended.DropReason.TheVariants.{NotVerified}
 use Rattle.stun_client_calls.specs.Deciding.{DecisionSeen, Place, answered, back_to, decided, drops}
 use Rattle.stun_client_calls.specs.Deciding.{giving_way, is_idle, is_spent, place_of}
-use Rattle.stun_client_calls.specs.Deciding.{refuses, turns, unauthorized, undoubted}
+use Rattle.stun_client_calls.specs.Deciding.{refuses, turns, challenged_out, undoubted}
 use Rattle.stun_client_calls.specs.Laws.{IsAnswerOrDrop, IsNoEnd, IsUnspent, IsWithinLimits, Judge}
 use Rattle.stun_client_calls.specs.Laws.{decision_on}
 use Rattle.stun_client_calls.specs.Messages.{AskedSeen, DOUBTS, SentSeen, TurnSeen, eligible}
@@ -79,7 +79,7 @@ record IsTurnFor (late spent : Bool) (w why : Why) (p place : Option Place) (d :
 
 turns_by : (late spent : Bool) (w why : Why) (p place : Option Place) (d : Answered)
     (c : Option Answered)
-    → cond late (drops LateChallenge) (cond spent unauthorized (turns w p (Some d)))
+    → cond late (drops LateChallenge) (cond spent challenged_out (turns w p (Some d)))
     ≡ turns why place c → IsTurnFor late spent w why p place d c
 turns_by true spent w why p place d c is = cc
 turns_by false true w why p place d c is = cc
@@ -88,7 +88,7 @@ turns_by false false w why p place d c is =
 
 turns_anew : (limits : Limits) (now : ℕ) (a : AskedSeen) (d : Answered) (why : Why)
     (place : Option Place) (c : Option Answered)
-    → cond (is_late now a) (drops LateChallenge) (cond (is_spent limits a) unauthorized
+    → cond (is_late now a) (drops LateChallenge) (cond (is_spent limits a) challenged_out
     (turns Challenged (option_map place_of (message_for d a.earlier)) (Some d)))
     ≡ turns why place c
     → IsTurnFor (is_late now a) (is_spent limits a) Challenged why
@@ -100,7 +100,7 @@ turns_anew limits now a d why place c =
 turns_refused : (limits : Limits) (now : ℕ) (a : AskedSeen) (d : Answered) (why : Why)
     (place : Option Place) (c : Option Answered)
     → cond (is_late now a) (drops LateChallenge)
-    (cond (is_spent limits a || nat_le OTHERS a.refusals.others) unauthorized
+    (cond (is_spent limits a || nat_le OTHERS a.refusals.others) challenged_out
     (turns Refused (option_map place_of (message_for d a.earlier)) (Some d)))
     ≡ turns why place c
     → IsTurnFor (is_late now a) (is_spent limits a || nat_le OTHERS a.refusals.others) Refused why
@@ -110,7 +110,7 @@ turns_refused limits now a d why place c =
     (option_map place_of (message_for d a.earlier)) place d c
 
 refusal_no_turn : (b : Bool) (why : Why) (place : Option Place) (c : Option Answered)
-    → cond b unauthorized refuses ≡ turns why place c → ⊥
+    → cond b challenged_out refuses ≡ turns why place c → ⊥
 refusal_no_turn true why place c is = cc
 refusal_no_turn false why place c is = cc
 
@@ -378,13 +378,13 @@ one_unsigned limits standing now a (dropped w) why is = cc
 
 anew_answers_not : (late spent : Bool) (w : Why) (p : Option Place) (d : Option Answered)
     (by : Option IntegrityAlgorithm)
-    → cond late (drops LateChallenge) (cond spent unauthorized (turns w p d)) ≡ answered by → ⊥
+    → cond late (drops LateChallenge) (cond spent challenged_out (turns w p d)) ≡ answered by → ⊥
 anew_answers_not true spent w p d by is = cc
 anew_answers_not false true w p d by is = cc
 anew_answers_not false false w p d by is = cc
 
 refusal_answers_not : (b : Bool) (by : Option IntegrityAlgorithm)
-    → cond b unauthorized refuses ≡ answered by → ⊥
+    → cond b challenged_out refuses ≡ answered by → ⊥
 refusal_answers_not true by is = cc
 refusal_answers_not false by is = cc
 
@@ -414,7 +414,7 @@ doubt_goes_on limits standing now a = by (is_idle limits now a)
 
 no_answer : (d : DecisionSeen) (by : Option IntegrityAlgorithm) → IsNoEnd d → d ≡ answered by → ⊥
 no_answer (answered b) by goes is = absurd goes
-no_answer unauthorized by goes is = cc
+no_answer challenged_out by goes is = cc
 no_answer (turns why place c) by goes is = cc
 no_answer refuses by goes is = cc
 no_answer (drops why) by goes is = cc
@@ -449,12 +449,12 @@ unsigned_answers j is_current now a before bytes by none is =
 
 anew_goes_on : (late spent : Bool) (w : Why) (p : Option Place) (d : Option Answered)
     → spent ≡ false
-    → IsNoEnd (cond late (drops LateChallenge) (cond spent unauthorized (turns w p d)))
+    → IsNoEnd (cond late (drops LateChallenge) (cond spent challenged_out (turns w p d)))
 anew_goes_on true spent w p d unspent = tt
 anew_goes_on false true w p d unspent = cc
 anew_goes_on false false w p d unspent = tt
 
-refusal_goes_on : (b : Bool) → b ≡ false → IsNoEnd (cond b unauthorized refuses)
+refusal_goes_on : (b : Bool) → b ≡ false → IsNoEnd (cond b challenged_out refuses)
 refusal_goes_on true unspent = cc
 refusal_goes_on false unspent = tt
 
@@ -492,7 +492,7 @@ one_ends_nothing j is_current now a before bytes none refuses_unsigned u =
 
 -- ---- refusals
 
-refuses_by : (b : Bool) → b ≡ false → cond b unauthorized refuses ≡ refuses
+refuses_by : (b : Bool) → b ≡ false → cond b challenged_out refuses ≡ refuses
 refuses_by true is = cc
 refuses_by false is = refl
 

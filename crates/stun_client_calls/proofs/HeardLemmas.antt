@@ -23,7 +23,7 @@ use Rattle.stun_client_requests.specs.Requests.{Answering, datum_of, number_at}
 use Rattle.stun_client_calls.specs.Clients.{Client, changed_at, chosen, identity_for}
 use Rattle.stun_client_calls.specs.Clients.{with_requests}
 use Rattle.stun_client_calls.specs.Deciding.{DecisionSeen, Place, answered, drops, refuses, turns}
-use Rattle.stun_client_calls.specs.Deciding.{unauthorized}
+use Rattle.stun_client_calls.specs.Deciding.{challenged_out}
 use Rattle.stun_client_calls.specs.Endpoints.{EndSeen}
 use Rattle.stun_client_calls.specs.Laws.{IsAnswerOrDrop, Judge, decision_on}
 use Rattle.stun_client_calls.specs.Ids.{first_free, is_taken, number_in}
@@ -232,7 +232,7 @@ module _ (P : Client → Type 0) (c : Client) (now : ℕ) (bytes : List ℕ) (sa
       → MayTurn m place)
       → P (by_decision memory c now bytes m d).1
   by_its_decision memory m there met_so (answered by) may = ended _ m _
-  by_its_decision memory m there met_so unauthorized may = ended _ m c.standing
+  by_its_decision memory m there met_so challenged_out may = ended _ m c.standing
   by_its_decision memory m there met_so (turns why place e) may =
       by_spot memory m why e place there met_so (may why place e refl) (spot_of c m.asked place) refl
   by_its_decision memory m there met_so refuses may = changed (Refused (code_in bytes)) m.number tt

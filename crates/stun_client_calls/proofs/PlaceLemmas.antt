@@ -9,7 +9,7 @@ use Rattle.stun_client_endpoint.specs.declared.ended.DropReason.TheVariants.{Lat
 use Rattle.stun_client_endpoint.specs.declared.ended.DropReason.TheVariants.{NotVerified}
 use Rattle.stun_client_calls.specs.Deciding.{DecisionSeen, Place, answered, begun_again}
 use Rattle.stun_client_calls.specs.Deciding.{decided, drops, giving_way, is_idle, is_spent}
-use Rattle.stun_client_calls.specs.Deciding.{place_of, refuses, turns, turns_for, unauthorized}
+use Rattle.stun_client_calls.specs.Deciding.{place_of, refuses, turns, turns_for, challenged_out}
 use Rattle.stun_client_calls.specs.Deciding.{undoubted}
 use Rattle.stun_client_calls.specs.Messages.{AskedSeen, SentSeen, eligible, has_unsigned, is_late}
 use Rattle.stun_client_calls.specs.Messages.{message_for, signed_eligible}
@@ -24,7 +24,7 @@ IsPlace P (Some p) = P p
 
 abbrev pub IsPlaced : (Place → Type 0) → DecisionSeen → Type 0
 IsPlaced P (answered by) = ⊤
-IsPlaced P unauthorized = ⊤
+IsPlaced P challenged_out = ⊤
 IsPlaced P (turns why place d) = IsPlace P place
 IsPlaced P refuses = ⊤
 IsPlaced P (drops why) = ⊤
@@ -43,7 +43,7 @@ module _ (P : Place → Type 0) (a : AskedSeen)
 
   placed_anew : (why : Why) (c : Answered) (late spent : Bool)
       → IsPlaced P
-      (cond late (drops LateChallenge) (cond spent unauthorized (turns_for why c a)))
+      (cond late (drops LateChallenge) (cond spent challenged_out (turns_for why c a)))
   placed_anew why c true spent = tt
   placed_anew why c false true = tt
   placed_anew why c false false = placed_for c
@@ -75,7 +75,7 @@ module _ (P : Place → Type 0) (a : AskedSeen)
   placed_doubt standing true = tt
   placed_doubt standing false = placed_way standing (eligible standing a.earlier) (found _)
 
-  placed_refusal : (b : Bool) → IsPlaced P (cond b unauthorized refuses)
+  placed_refusal : (b : Bool) → IsPlaced P (cond b challenged_out refuses)
   placed_refusal true = tt
   placed_refusal false = tt
 

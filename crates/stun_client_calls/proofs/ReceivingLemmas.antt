@@ -36,11 +36,12 @@ use Rattle.stun_agent.specs.Timing.{Settings}
 use Rattle.stun_client_calls.specs.Clients.{Client, address_for, identity_for, plan_for}
 use Rattle.stun_client_calls.specs.Clients.{with_requests}
 use Rattle.stun_client_calls.specs.Deciding.{DecisionSeen, Place, answered, decided, drops, refuses}
-use Rattle.stun_client_calls.specs.Deciding.{unauthorized}
+use Rattle.stun_client_calls.specs.Deciding.{challenged_out}
 use Rattle.stun_client_calls.specs.Endpoints.{EndSeen, bare_end, without_all}
 use Rattle.stun_client_calls.specs.Ids.{Earlier, number_in}
 use Rattle.stun_client_calls.specs.Messages.{AskedSeen, SentSeen, TurnSeen, message_at, new_asked}
 use Rattle.stun_client_calls.specs.Messages.{turned}
+use Rattle.stun_client_calls.specs.Receiving.{end_after}
 use Rattle.stun_client_calls.specs.Receiving.{Answer, Memory, Met, Spot, UnlessMemory, all_memory}
 use Rattle.stun_client_calls.specs.Receiving.{answered_in}
 use Rattle.stun_client_calls.specs.Receiving.{is_success_class}
@@ -388,39 +389,39 @@ answered_so c mid now bytes m number is_current by end confirmed a standing earl
     (answered_as c mid now bytes m number is_current by end confirmed a standing earlier found same current ends confirms stored mid_is standing_is earlier_is)
 
 -- a request has ended that was challenged or refused as often as it may be
-pub unauthorized_as : (c mid : Client) (now : ℕ) (bytes : List ℕ) (m : Met) (number : ℕ)
+pub challenged_out_as : (c mid : Client) (now : ℕ) (bytes : List ℕ) (m : Met) (number : ℕ)
     (is_current : Bool) (end : EndSeen) (a : AskedSeen) (earlier : Earlier)
     → answered_in bytes c ≡ Some m → number ≡ m.number → is_current ≡ m.is_current
-    → end ≡ bare_end how.Unauthorized → Some a ≡ datum_of number c.requests
+    → end ≡ bare_end (end_after m.asked.signed_for bytes) → Some a ≡ datum_of number c.requests
     → mid ≡ with_requests (after_answering number (length bytes)
     (if is_current then Some now else None) end c.requests) c
     → earlier ≡ without_all a.earlier mid.earlier
     → (memory : Memory)
     → (Consumed, record mid { earlier = earlier })
-    ≡ by_decision memory c now bytes m unauthorized
-unauthorized_as c mid now bytes m number is_current end a earlier found same current ends stored
+    ≡ by_decision memory c now bytes m challenged_out
+challenged_out_as c mid now bytes m number is_current end a earlier found same current ends stored
     mid_is earlier_is memory =
     ap (λ (x : Client). consumed x)
     (ended_so c (record mid { earlier = earlier }) now bytes m number is_current end
-    (bare_end how.Unauthorized) mid.standing c.standing a same current ends
+    (bare_end (end_after m.asked.signed_for bytes)) mid.standing c.standing a same current ends
     (ap (λ (x : Client). x.standing) mid_is) (same_asked bytes c m number a found same stored)
     (ending_so c mid number (if is_current then Some now else None) end bytes mid.standing a earlier
     mid_is earlier_is))
 
-pub unauthorized_so : (c mid : Client) (now : ℕ) (bytes : List ℕ) (m : Met) (number : ℕ)
+pub challenged_out_so : (c mid : Client) (now : ℕ) (bytes : List ℕ) (m : Met) (number : ℕ)
     (is_current : Bool) (end : EndSeen) (a : AskedSeen) (earlier : Earlier)
     → answered_in bytes c ≡ Some m → number ≡ m.number → is_current ≡ m.is_current
-    → end ≡ bare_end how.Unauthorized → Some a ≡ datum_of number c.requests
+    → end ≡ bare_end (end_after m.asked.signed_for bytes) → Some a ≡ datum_of number c.requests
     → mid ≡ with_requests (after_answering number (length bytes)
     (if is_current then Some now else None) end c.requests) c
     → earlier ≡ without_all a.earlier mid.earlier
-    → UnlessMemory (λ memory. by_decision memory c now bytes m unauthorized) bytes (Some m) c
+    → UnlessMemory (λ memory. by_decision memory c now bytes m challenged_out) bytes (Some m) c
     (Consumed, record mid { earlier = earlier })
-unauthorized_so c mid now bytes m number is_current end a earlier found same current ends stored
+challenged_out_so c mid now bytes m number is_current end a earlier found same current ends stored
     mid_is earlier_is =
-    always (λ memory. by_decision memory c now bytes m unauthorized) bytes (Some m) c
+    always (λ memory. by_decision memory c now bytes m challenged_out) bytes (Some m) c
     (Consumed, record mid { earlier = earlier })
-    (unauthorized_as c mid now bytes m number is_current end a earlier found same current ends stored mid_is earlier_is)
+    (challenged_out_as c mid now bytes m number is_current end a earlier found same current ends stored mid_is earlier_is)
 
 -- ---- the message that was the current one
 

@@ -20,7 +20,7 @@ use Rattle.stun_client_calls.specs.declared.turning.Why.TheVariants.{Undoubted}
 use Rattle.stun_client_calls.specs.declared.deciding.Decision.{Decision}
 use Rattle.stun_client_calls.specs.declared.deciding.Decision.TheVariants.{Answered as AnsweredBy}
 use Rattle.stun_client_calls.specs.declared.deciding.Decision.TheVariants.{Drop, Refuse, Turn}
-use Rattle.stun_client_calls.specs.declared.deciding.Decision.TheVariants.{Unauthorized}
+use Rattle.stun_client_calls.specs.declared.deciding.Decision.TheVariants.{ChallengedOut}
 use Rattle.stun_client_calls.specs.declared.deciding.Limits.{Limits}
 
 -- the rank and the transaction ID of an earlier message
@@ -30,13 +30,13 @@ Place = ℕ × ℕ
 abbrev pub place_of : ℕ × SentSeen → Place
 place_of e = (e.0, e.1.id)
 
--- what happens after a response: the response ends its request, and has this signature; the request
--- ends as unauthorized; an earlier message or a new one, which is signed for this challenge or is
--- not signed, becomes the current one; the response is a refusal, which is dropped and counted; or
--- the response is dropped
+-- what happens after a response: the response ends its request, and has this signature; the
+-- response is a challenge that the request no longer answers, so that it ends; an earlier message or
+-- a new one, which is signed for this challenge or is not signed, becomes the current one; the
+-- response is a refusal, which is dropped and counted; or the response is dropped
 pub data DecisionSeen : Type 0 where
   answered : Option IntegrityAlgorithm → DecisionSeen
-  unauthorized : DecisionSeen
+  challenged_out : DecisionSeen
   turns : Why → Option Place → Option Answered → DecisionSeen
   refuses : DecisionSeen
   drops : DropReason → DecisionSeen
@@ -44,7 +44,7 @@ pub data DecisionSeen : Type 0 where
 -- the result of `decide`, as this type
 abbrev pub decision_of : {A : Type 0} → Decision A → DecisionSeen
 decision_of (AnsweredBy by) = answered by
-decision_of Unauthorized = unauthorized
+decision_of ChallengedOut = challenged_out
 decision_of (Turn why place c) = turns why place c
 decision_of Refuse = refuses
 decision_of (Drop why) = drops why
@@ -66,7 +66,7 @@ turns_for why c a = turns why (option_map place_of (message_for c a.earlier)) (S
 abbrev pub answered_anew : Limits → ℕ → AskedSeen → Answered → DecisionSeen
 answered_anew limits now a c =
     if is_late now a then drops LateChallenge
-    else if is_spent limits a then unauthorized
+    else if is_spent limits a then challenged_out
     else turns_for Challenged c a
 
 -- a 401 for the same realm and security bits, with another nonce or list, is answered in this way
@@ -74,7 +74,7 @@ answered_anew limits now a c =
 abbrev pub answered_refusal : Limits → ℕ → AskedSeen → Answered → DecisionSeen
 answered_refusal limits now a c =
     if is_late now a then drops LateChallenge
-    else if is_spent limits a || nat_le OTHERS a.refusals.others then unauthorized
+    else if is_spent limits a || nat_le OTHERS a.refusals.others then challenged_out
     else turns_for Refused c a
 
 -- the challenge that the message is signed for already: the message stays the current one. The
@@ -82,7 +82,7 @@ answered_refusal limits now a c =
 -- is retransmitted, the first one does
 abbrev pub refused_again : Limits → AskedSeen → DecisionSeen
 refused_again limits a =
-    if limits.is_reliable || a.refusals.is_earlier then unauthorized else refuses
+    if limits.is_reliable || a.refusals.is_earlier then challenged_out else refuses
 
 -- ---- doubts
 

@@ -5,7 +5,7 @@ use Rattle.stun_client.specs.Judging.{Identity, judged}
 use Rattle.stun_client.specs.Standing.{StandingSeen}
 use Rattle.stun_client_endpoint.specs.Refusals.{OTHERS}
 use Rattle.stun_client_calls.specs.Deciding.{DecisionSeen, answered, decided, drops, refuses, turns}
-use Rattle.stun_client_calls.specs.Deciding.{unauthorized}
+use Rattle.stun_client_calls.specs.Deciding.{challenged_out}
 use Rattle.stun_client_calls.specs.Messages.{AskedSeen, DOUBTS, is_doubt, is_refusal}
 use Rattle.stun_client_calls.specs.declared.deciding.Limits.{Limits}
 use Rattle.stun_client_calls.specs.declared.turning.Why.{Why}
@@ -38,7 +38,7 @@ pub record IsWithinLimits (limits : Limits) (now : ℕ) (a : AskedSeen) (why : W
 -- the request continues
 abbrev pub IsNoEnd : DecisionSeen → Type 0
 IsNoEnd (answered by) = ⊥
-IsNoEnd unauthorized = ⊥
+IsNoEnd challenged_out = ⊥
 IsNoEnd (turns why place c) = ⊤
 IsNoEnd refuses = ⊤
 IsNoEnd (drops why) = ⊤
@@ -46,7 +46,7 @@ IsNoEnd (drops why) = ⊤
 -- the request is answered, or the response is dropped
 abbrev pub IsAnswerOrDrop : DecisionSeen → Type 0
 IsAnswerOrDrop (answered by) = ⊤
-IsAnswerOrDrop unauthorized = ⊥
+IsAnswerOrDrop challenged_out = ⊥
 IsAnswerOrDrop (turns why place c) = ⊥
 IsAnswerOrDrop refuses = ⊥
 IsAnswerOrDrop (drops why) = ⊤

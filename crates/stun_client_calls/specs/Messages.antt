@@ -13,7 +13,7 @@ use Rattle.stun_client.specs.Challenges.{Answered, is_one}
 use Rattle.stun_client.specs.Standing.{StandingSeen, after_timeout, is_ignored}
 use Rattle.stun_client_endpoint.specs.Bodies.{Body}
 use Rattle.stun_client_endpoint.specs.Ends.{after_drop, no_drops}
-use Rattle.stun_client_endpoint.specs.Refusals.{after_refusal, after_sending, no_refusals}
+use Rattle.stun_client_endpoint.specs.Refusals.{after_refusal, after_sending, after_turn, no_refusals}
 use Rattle.stun_client_endpoint.specs.declared.ended.DropReason.{DropReason}
 use Rattle.stun_client_endpoint.specs.declared.ended.DropReason.TheVariants.{Refused as RefusedAgain}
 use Rattle.stun_client_endpoint.specs.declared.ended.Drops.{Drops}
@@ -32,8 +32,9 @@ pub record SentSeen : Type 0 where
   pub signed_for : Option Answered
   pub is_doubted : Bool
 
--- the earlier messages of a request, each under its rank. The later a message was sent for the
--- first time, the lower is its rank, so the last one comes first
+-- the earlier messages of a request, each under its rank. The later a message was written, the
+-- lower is its rank, so the one that was written last comes first, whichever of them was the current
+-- one last
 abbrev pub AllSent : Type 0
 AllSent = List (ℕ × SentSeen)
 
@@ -60,8 +61,7 @@ pub record AskedSeen : Type 0 where
   pub refusals : Refusals
   pub drops : Drops
 
--- the rank of a message that is sent for the first time after another message has become the
--- current one this often
+-- the rank of a message that is written after another message has become the current one this often
 abbrev pub rank_after : ℕ → ℕ
 rank_after turns = 4294967295 - turns
 
@@ -190,7 +190,7 @@ abbrev pub counting : Why → AskedSeen → AskedSeen
 counting why a = record a {
   turns = counted_on a.turns;
   doubts = if is_doubt why then counted_on a.doubts else a.doubts;
-  refusals = after_sending (is_refusal why) a.refusals;
+  refusals = after_turn (is_refusal why) a.refusals;
 }
 
 -- a request after another message has become the current one. `former` is the transaction ID that
@@ -223,7 +223,7 @@ stepped_back a standing = after_timeout standing (challenge_for standing.current
 abbrev pub sent_out : ℕ → AskedSeen → AskedSeen
 sent_out now a = record a {
   handed_out = handed_out_at now a.handed_out;
-  refusals = after_sending false a.refusals;
+  refusals = after_sending a.refusals;
 }
 
 -- a response to it is dropped

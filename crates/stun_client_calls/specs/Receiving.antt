@@ -13,6 +13,7 @@ use Rattle.stun_base.specs.declared.wire.message_type.MessageClass.{MessageClass
 use Rattle.stun_base.specs.declared.wire.message_type.MessageClass.TheVariants as Classes
 use Rattle.stun_types.specs.Message.{refusal}
 use Rattle.stun_extra.specs.CanonicalAddress.{is_same_address}
+use Rattle.stun_judging.specs.Reading.{UNAUTHORIZED, is_code}
 use Rattle.stun_client.specs.Challenges.{Answered}
 use Rattle.stun_client.specs.Challenging.{code_in}
 use Rattle.stun_client.specs.Standing.{answering, confirming}
@@ -24,6 +25,7 @@ use Rattle.stun_client_endpoint.specs.Settings.{is_reliable}
 use Rattle.stun_client_endpoint.specs.Written.{Page?}
 use Rattle.stun_client_endpoint.specs.declared.ended.DropReason.{DropReason}
 use Rattle.stun_client_endpoint.specs.declared.ended.DropReason.TheVariants as Reasons
+use Rattle.stun_client_endpoint.specs.declared.ended.RequestEnd.{RequestEnd}
 use Rattle.stun_client_endpoint.specs.declared.ended.RequestEnd.TheVariants as how
 use Rattle.stun_client_endpoint.specs.declared.told.Received.{Received}
 use Rattle.stun_client_endpoint.specs.declared.told.Received.TheVariants.{Consumed, Dropped}
@@ -33,7 +35,7 @@ use Rattle.stun_client_requests.specs.Requests.{datum_of, number_at}
 use Rattle.stun_client_calls.specs.Clients.{Client, address_for, changed_at, chosen, forgetting}
 use Rattle.stun_client_calls.specs.Clients.{identity_for, plan_for, with_requests}
 use Rattle.stun_client_calls.specs.Deciding.{DecisionSeen, Place, answered, drops, refuses, turns}
-use Rattle.stun_client_calls.specs.Deciding.{is_doubted, unauthorized}
+use Rattle.stun_client_calls.specs.Deciding.{is_doubted, challenged_out}
 use Rattle.stun_client_calls.specs.Endpoints.{EndSeen, bare_end}
 use Rattle.stun_client_calls.specs.Ids.{Earlier, number_in}
 use Rattle.stun_client_calls.specs.Laws.{Judge, decision_on}
@@ -145,9 +147,16 @@ answered_by c now bytes m end = (
   }),
 )
 
-abbrev pub unauthorized_by : Client → ℕ → List ℕ → Met → Answer
-unauthorized_by c now bytes m =
-    (Consumed, ended_by (bare_end how.Unauthorized) bytes now m c)
+-- how a challenge ends the request whose current message it answers (section 9.2.5): as
+-- unauthorized if it is a 401 and the message is signed, and otherwise as challenged too often
+abbrev pub end_after : Option Answered → List ℕ → RequestEnd
+end_after signed_for bytes =
+    if is_some signed_for && is_code UNAUTHORIZED (code_in bytes) then how.Unauthorized
+    else how.TooManyChallenges
+
+abbrev pub challenged_out_by : Client → ℕ → List ℕ → Met → Answer
+challenged_out_by c now bytes m =
+    (Consumed, ended_by (bare_end (end_after m.asked.signed_for bytes)) bytes now m c)
 
 -- ---- another message
 
@@ -250,7 +259,7 @@ by_decision memory c now bytes m (answered by) =
       response = bytes;
       round_trip = round_trip_of now m;
     })
-by_decision memory c now bytes m unauthorized = unauthorized_by c now bytes m
+by_decision memory c now bytes m challenged_out = challenged_out_by c now bytes m
 by_decision memory c now bytes m (turns why place d) =
     turned_at memory c now bytes m why d (spot_of c m.asked place)
 by_decision memory c now bytes m refuses = dropping_refusal m.number bytes c

@@ -132,7 +132,8 @@ fn is_too_weak<A: Allocator + Copy>(
 /// message, the state has the challenge that it is signed for, and how often `poll` returned its
 /// bytes.
 ///
-/// Each message has a rank: the later it was sent for the first time, the lower its rank.
+/// Each message has a rank: the later it was written, the lower its rank. So *the last* of several
+/// earlier messages is the one that was written last, whichever of them was the current one last.
 ///
 /// Contracts: the value is a record of all fields.
 #[derive(Drop)]
@@ -145,7 +146,7 @@ pub struct Asked<A: Allocator> {
     rank: u32,
     signed_for: Option<Challenge<A>>,
     handed_out: HandedOut,
-    // The message that was sent last comes first.
+    // By rank, so the message that was written last comes first.
     earlier: BTreeMap<u32, Sent<A>, A>,
     turns: u32,
     doubts: u32,
@@ -300,7 +301,7 @@ impl<A: Memory> Asked<A> {
         self.refusals
     }
 
-    /// Returns whether the first plan is over.
+    /// Returns whether the first plan is over. It is not over at the time at which it ends.
     pub fn is_late(&self, now: Instant) -> bool
         ensures { result ≡ is_late now self.now }
     {
@@ -321,7 +322,7 @@ impl<A: Memory> Asked<A> {
         self.doubts >= 3
     }
 
-    /// Returns the rank of a message that becomes the current one and is sent for the first time.
+    /// Returns the rank of a message that is written now and becomes the current one.
     pub fn next_rank(&self) -> u32
         ensures { result ≡ rank_after (counted_on self.now.turns) }
     {
@@ -407,7 +408,7 @@ impl<A: Memory> Asked<A> {
         if turn.why.is_doubt() {
             asked.doubts = asked.doubts.saturating_add(1);
         }
-        asked.refusals = asked.refusals.sent(turn.why.is_refusal());
+        asked.refusals = asked.refusals.turned(turn.why.is_refusal());
         (asked, is_kept, turn.answered)
     }
 
@@ -474,7 +475,7 @@ impl<A: Memory> Asked<A> {
     {
         let mut asked = self;
         asked.handed_out = asked.handed_out.handed_out_at(now);
-        asked.refusals = asked.refusals.sent(false);
+        asked.refusals = asked.refusals.sent();
         asked
     }
 
@@ -524,8 +525,8 @@ pub enum Change {
     Refused(Option<u16>),
 }
 
-/// Returns the rank of a message that is sent for the first time after another message has become
-/// the current one `turns` times.
+/// Returns the rank of a message that is written after another message has become the current one
+/// `turns` times.
 fn compute_rank(turns: u32) -> u32
     ensures { result ≡ rank_after turns }
 {

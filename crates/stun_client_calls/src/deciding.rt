@@ -35,8 +35,9 @@ pub enum Decision<A: Allocator> {
     /// The response is believed and ends the request. The algorithm is that of its signature, or
     /// `None` if it is not signed.
     Answered(Option<IntegrityAlgorithm>),
-    /// The request ends as `Unauthorized`.
-    Unauthorized,
+    /// The response is a challenge, and the request has been challenged or refused as often as the
+    /// limits allow. The request ends, as `Unauthorized` or as `TooManyChallenges`.
+    ChallengedOut,
     /// Another message becomes the current one: the earlier message with this rank and this
     /// transaction ID, or a new message if these are `None`. It is signed for this challenge, or
     /// not signed if the challenge is `None`.
@@ -52,20 +53,25 @@ pub enum Decision<A: Allocator> {
 ///
 /// - A response that is believed ends the request.
 /// - A challenge is answered with the message for it, which is an earlier message of the request or
-///   a new one. After the first plan of the request, the challenge is dropped as `LateChallenge`.
+///   a new one. After the first plan of the request, the challenge is dropped as `LateChallenge`,
+///   but a challenge that arrives exactly at the end of this plan is answered.
 ///   If another message has become the current one as often as the limit allows, the challenge ends
 ///   the request.
 /// - A 401 for the same realm and security bits, with a different nonce or list, is answered like a
 ///   challenge the first two times. The third such 401 ends the request.
-/// - If the response repeats the challenge that the message is signed for, it is dropped as a
-///   refusal. It counts at most once for each time that the message was sent. The second refusal
-///   that counts ends the request. Over a reliable transport, the first refusal ends it.
+/// - If the response repeats the challenge that the current message is signed for, it is dropped as
+///   a refusal. It counts at most once for each time that the message was sent since it became the
+///   current one, and not before the message was sent. The second refusal that counts ends the
+///   request. Over a reliable transport, the first refusal ends it. When another message becomes the
+///   current one, no refusal of the former message counts any more, even if the former message
+///   becomes the current one again.
 /// - A *doubt* is an error that casts doubt on the message that it answers. It is dropped after the
 ///   first plan of the request, once another message has become the current one as often as the
 ///   limit allows, and once three doubts have made another message the current one. Otherwise the
-///   last eligible earlier message becomes the current one again. A message is eligible if it is
-///   not in doubt, and is not signed for a challenge that is weaker than the challenge that a
-///   success has confirmed.
+///   eligible earlier message that was written last becomes the current one again. A message is
+///   eligible if it is not in doubt, and is not signed for a challenge that is weaker than the
+///   challenge that a success has confirmed. If it is signed, new requests are then signed for its
+///   challenge, so an unsigned 437, which anybody can send, can change that challenge.
 ///
 ///   If there is no eligible message, the effect of a doubt depends on the current message. If that
 ///   message is signed, a new unsigned message replaces it, unless the request has an unsigned
@@ -109,7 +115,7 @@ fn decide_on_challenge<A: Allocator + Copy>(
         return Decision::Drop(DropReason::LateChallenge);
     }
     if asked.is_spent(limits.turns) {
-        return Decision::Unauthorized;
+        return Decision::ChallengedOut;
     }
     turn_for_challenge(Why::Challenged, challenge, asked)
 }
@@ -128,7 +134,7 @@ fn decide_on_refusal<A: Allocator + Copy>(
         return Decision::Drop(DropReason::LateChallenge);
     }
     if asked.is_spent(limits.turns) || asked.refusals().is_last() {
-        return Decision::Unauthorized;
+        return Decision::ChallengedOut;
     }
     turn_for_challenge(Why::Refused, challenge, asked)
 }
@@ -140,7 +146,7 @@ fn decide_on_repeat<A: Allocator + Copy>(asked: &Asked<A>, limits: Limits) -> De
     ensures { decision_of result ≡ refused_again limits asked.now }
 {
     if limits.is_reliable || asked.refusals().is_earlier() {
-        Decision::Unauthorized
+        Decision::ChallengedOut
     } else {
         Decision::Refuse
     }

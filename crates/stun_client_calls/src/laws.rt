@@ -12,7 +12,7 @@ ghost use Rattle.stun_client_calls.specs.Deciding.{Place, answered, decided, ref
 ghost use Rattle.stun_client_calls.specs.Laws.{IsAnswerOrDrop, IsNoEnd, IsUnspent, IsWithinLimits};
 ghost use Rattle.stun_client_calls.specs.Laws.{Judge, decision_on};
 ghost use Rattle.stun_client_calls.specs.Messages.{AskedSeen, TurnSeen, has_unsigned, is_too_weak};
-ghost use Rattle.stun_client_calls.specs.Messages.{message_for, refusing, turned};
+ghost use Rattle.stun_client_calls.specs.Messages.{message_for, refusing, sent_out, turned};
 ghost use Rattle.stun_client_calls.specs.OptionLaws.{ConfirmsNothing, IsNotHeardElsewhere};
 ghost use Rattle.stun_client_calls.specs.OptionLaws.{IsNotSentOtherwise, IsWrittenUnsigned, StartsUnsigned};
 ghost use Rattle.stun_client_calls.specs.declared.deciding.Limits.{Limits as TheLimits};
@@ -76,10 +76,15 @@ pub fn one_forged_datagram_ends_no_signed_request()
         → IsNoEnd (decision_on j is_current now a before bytes) }
 {}
 
-/// A response that repeats the challenge that a request is signed for counts as a refusal at most
-/// once for each transmission of the request. Over UDP, such a response does not end the request
-/// when it arrives for the first time (`first`), nor when it arrives again before the request is
-/// sent again (`repeated`).
+/// A response that repeats the challenge that the current message of a request is signed for counts
+/// as a refusal at most once for each transmission of this message. Over UDP, such a response does
+/// not end the request when it arrives for the first time (`first`), nor when it arrives again before
+/// the message is sent again (`repeated`).
+///
+/// Refusals are counted by message. When another message becomes the current one, whatever arrived
+/// before does not count against it, so its first refusal does not end the request (`turned`). What
+/// refuses this message before it is sent is a copy of an older response, and does not count either
+/// (`unsent`).
 pub fn the_first_refusal_ends_nothing()
     ensures first { (limits : TheLimits) (standing : StandingSeen) (now : ℕ) (a : AskedSeen)
         → limits.is_reliable ≡ false → a.refusals.is_earlier ≡ false
@@ -87,6 +92,14 @@ pub fn the_first_refusal_ends_nothing()
     ensures repeated { (limits : TheLimits) (standing : StandingSeen) (now : ℕ) (a : AskedSeen)
         (code : Option ℕ) → limits.is_reliable ≡ false → a.refusals.is_earlier ≡ false
         → decided limits standing now (refusing code a) (refused None) ≡ refuses }
+    ensures turned { (limits : TheLimits) (standing : StandingSeen) (now : ℕ) (a : AskedSeen)
+        (is_kept : Bool) (former : ℕ) (t : TurnSeen) → limits.is_reliable ≡ false
+        → decided limits standing now (turned is_kept former t a) (refused None) ≡ refuses }
+    ensures unsent { (limits : TheLimits) (standing : StandingSeen) (now later : ℕ) (a : AskedSeen)
+        (is_kept : Bool) (former : ℕ) (t : TurnSeen) (code : Option ℕ)
+        → limits.is_reliable ≡ false
+        → decided limits standing now (sent_out later (refusing code (turned is_kept former t a)))
+        (refused None) ≡ refuses }
 {}
 
 /// A response to an earlier message of a request either answers the request or is dropped. It does

@@ -22,9 +22,9 @@ pub enum DropReason {
     UnanswerableChallenge,
     /// The response is a challenge that is weaker than the challenge that a success has confirmed.
     WeakerChallenge,
-    /// The response repeats the challenge that the request is signed for. The request is
-    /// retransmitted by its timer, and ends as `Unauthorized` if the challenge arrives once more
-    /// after that.
+    /// The response repeats the challenge that the current message is signed for. This message is
+    /// retransmitted by its timer. The request ends if the challenge arrives once more after that,
+    /// unless another message has become the current one in between.
     Refused,
     /// The response is a challenge that arrived after the first plan of the request, so the request
     /// is not sent again for it.
@@ -91,9 +91,12 @@ pub enum RequestEnd {
     Answered(Outcome, Option<IntegrityAlgorithm>),
     /// No acceptable response arrived in time.
     TimedOut(Drops),
-    /// The server refuses the credentials, or challenges the request too often: the user name or
-    /// the password is wrong, or an attacker forges challenges.
+    /// A 401 refused a signed message of the request: the user name or the password is wrong, or an
+    /// attacker forges challenges.
     Unauthorized,
+    /// The request was challenged too often, and the last challenge was not a 401 to a signed
+    /// message: servers with different nonces have one address, or an attacker forges challenges.
+    TooManyChallenges,
     /// The request was canceled.
     Cancelled,
 }

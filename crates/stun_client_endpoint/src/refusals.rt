@@ -1,17 +1,20 @@
-//! The refusals of a request, which determine when the request ends as unauthorized.
+//! The refusals of a request, which determine when a challenge ends the request.
 ghost use Rattle.std.specs.Prelude.{◌≡◌, nat_le};
 ghost use Rattle.stun_client_endpoint.specs.Refusals.{OTHERS, after_refusal, after_sending};
-ghost use Rattle.stun_client_endpoint.specs.Refusals.{no_refusals};
+ghost use Rattle.stun_client_endpoint.specs.Refusals.{after_turn, no_refusals};
 
-/// The refusals of a request. A refusal is a response that repeats the challenge that the request
-/// is signed for, or a 401 for the same realm and security bits with a different nonce or list.
+/// The refusals of a request. A refusal is a response that repeats the challenge that the current
+/// message is signed for, or a 401 for the same realm and security bits with a different nonce or
+/// list. The first kind is counted for each message, and the second kind for the request.
 #[derive(Clone, Copy)]
 pub struct Refusals {
-    /// Whether a response has repeated the challenge since the request was sent last.
+    /// Whether the current message was sent since it became the current one.
+    is_sent: bool,
+    /// Whether a response has repeated the challenge since the current message was sent last.
     is_recent: bool,
-    /// Whether a response repeated the challenge before the request was sent last.
+    /// Whether a response repeated the challenge before the current message was sent last.
     is_earlier: bool,
-    /// How often the request was sent again for a 401 with a different nonce or list.
+    /// How often a 401 with a different nonce or list made another message the current one.
     others: u32,
 }
 
@@ -21,43 +24,54 @@ impl Refusals {
         ensures { result ≡ no_refusals }
     {
         Refusals {
+            is_sent: false,
             is_recent: false,
             is_earlier: false,
             others: 0,
         }
     }
 
-    /// Returns the value after a response has repeated the challenge that the request is signed
-    /// for.
+    /// Returns the value after a response has repeated the challenge that the current message is
+    /// signed for.
     pub fn noted(self) -> Refusals
         ensures { result ≡ after_refusal self }
     {
         Refusals {
-            is_recent: true,
+            is_sent: self.is_sent,
+            // Before the message is sent, only a copy of an older response can refuse it.
+            is_recent: self.is_recent || self.is_sent,
             is_earlier: self.is_earlier,
             others: self.others,
         }
     }
 
-    /// Returns the value after the request was sent again, by its timer or for another challenge.
-    /// Pass `true` as `is_refusal` if that challenge was a refusal, which is a 401 for the same
-    /// realm and security bits.
-    pub fn sent(self, is_refusal: bool) -> Refusals
-        ensures { result ≡ after_sending is_refusal self }
+    /// Returns the value after the current message was sent.
+    pub fn sent(self) -> Refusals
+        ensures { result ≡ after_sending self }
     {
-        let others = if is_refusal {
-            self.others.saturating_add(1)
-        } else {
-            self.others
-        };
         Refusals {
+            is_sent: true,
             is_recent: false,
             is_earlier: self.is_earlier || self.is_recent,
-            others,
+            others: self.others,
         }
     }
 
-    /// Returns whether a response repeated the challenge before the request was sent last.
+    /// Returns the value after another message became the current one. Pass `true` as `is_refusal`
+    /// if the challenge of this message is a 401 for the same realm and security bits.
+    pub fn turned(self, is_refusal: bool) -> Refusals
+        ensures { result ≡ after_turn is_refusal self }
+    {
+        // A refusal of the former message, which may be forged, says nothing about the new one.
+        Refusals {
+            is_sent: false,
+            is_recent: false,
+            is_earlier: false,
+            others: self.others.saturating_add(u32::from(is_refusal)),
+        }
+    }
+
+    /// Returns whether a response repeated the challenge before the current message was sent last.
     pub fn is_earlier(self) -> bool
         ensures { result ≡ self.is_earlier }
     {

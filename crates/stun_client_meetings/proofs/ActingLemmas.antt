@@ -31,7 +31,7 @@ use Rattle.stun_client_requests.proofs.NumberLemmas.{apart}
 use Rattle.stun_client_calls.specs.Clients.{Client, address_for, chosen, identity_for, plan_for}
 use Rattle.stun_client_calls.specs.Deciding.{DecisionSeen, Place, answered, decided, drops}
 use Rattle.stun_client_calls.specs.Deciding.{is_spent}
-use Rattle.stun_client_calls.specs.Deciding.{place_of, turns, turns_for, unauthorized}
+use Rattle.stun_client_calls.specs.Deciding.{place_of, turns, turns_for, challenged_out}
 use Rattle.stun_client_calls.specs.Endpoints.{EndSeen}
 use Rattle.stun_client_calls.specs.Ids.{first_free, is_taken, number_in}
 use Rattle.stun_client_calls.specs.Messages.{AskedSeen, SentSeen, counted_on, message_for}
@@ -175,9 +175,9 @@ module _ (c : Client) (number id : ℕ) (a : AskedSeen) (server : SocketAddr) (r
           ≡ turns Challenged place (Some d)
       comes_to =
           ap (λ b. cond b (drops LateChallenge)
-          (cond (is_spent (judge_for c a).limits a) unauthorized (turns_for Challenged d a)))
+          (cond (is_spent (judge_for c a).limits a) challenged_out (turns_for Challenged d a)))
           (le-ltb a.until now in_time)
-          ∙ ap (λ b. cond b unauthorized (turns_for Challenged d a)) (lt-leb c.turns a.turns often)
+          ∙ ap (λ b. cond b challenged_out (turns_for Challenged d a)) (lt-leb c.turns a.turns often)
 
       abbrev pub after_challenge : Client
       after_challenge = (turned_to memory c now response its Challenged (Some d) s bytes).1

@@ -23,7 +23,7 @@ use Rattle.stun_client_calls.specs.Clients.{handed_out_of, sent_by, started, sta
 use Rattle.stun_client_calls.specs.Clients.{started_with}
 use Rattle.stun_client_calls.specs.Clients.{told, with_requests}
 use Rattle.stun_client_calls.specs.Deciding.{DecisionSeen, answered, drops, refuses, turns}
-use Rattle.stun_client_calls.specs.Deciding.{unauthorized}
+use Rattle.stun_client_calls.specs.Deciding.{challenged_out}
 use Rattle.stun_client_calls.specs.Endpoints.{EndSeen}
 use Rattle.stun_client_calls.specs.Messages.{AskedSeen, is_late}
 use Rattle.stun_client_calls.specs.Options.{Options}
@@ -81,7 +81,7 @@ module _ (memory : Memory) (now : ℕ) (bytes : List ℕ) (c : Client) where
   decision_parts : (m : Met) (d : DecisionSeen)
       → parts (by_decision memory c now bytes m d).1 ≡ parts c
   decision_parts m (answered by) = refl
-  decision_parts m unauthorized = refl
+  decision_parts m challenged_out = refl
   decision_parts m (turns why place d) = turned_parts m why d (spot_of c m.asked place)
   decision_parts m refuses = refl
   decision_parts m (drops why) = refl

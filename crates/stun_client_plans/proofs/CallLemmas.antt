@@ -30,10 +30,12 @@ use Rattle.stun_client_calls.specs.Clients.{refusal_of_page}
 use Rattle.stun_client_calls.specs.Clients.{refusal_to_start, started, started_at, started_by}
 use Rattle.stun_client_calls.specs.Clients.{started_with}
 use Rattle.stun_client_calls.specs.Deciding.{DecisionSeen, answered, drops, refuses, turns}
-use Rattle.stun_client_calls.specs.Deciding.{unauthorized}
+use Rattle.stun_client_calls.specs.Deciding.{challenged_out}
 use Rattle.stun_client_calls.specs.Endpoints.{EndSeen, bare_end}
+use Rattle.stun_client_calls.specs.Laws.{IsNoEnd}
 use Rattle.stun_client_calls.specs.Messages.{AskedSeen, new_asked, turned}
 use Rattle.stun_client_calls.specs.Options.{Options}
+use Rattle.stun_client_calls.specs.Receiving.{end_after}
 use Rattle.stun_client_calls.specs.Receiving.{Answer, Memory, Met, Spot, UnlessMemory}
 use Rattle.stun_client_calls.specs.Receiving.{as_expected, by_class, by_decision, by_met}
 use Rattle.stun_client_calls.specs.Receiving.{decision_for, forgone, heard_in, moment_of}
@@ -65,13 +67,11 @@ until_stays (Refused code) a = refl
 
 -- ---- datagrams
 
--- what holds of the requests after each change that a datagram makes of an outstanding one holds of
--- the requests after the datagram
+-- what holds of the requests after each change that a datagram makes of an outstanding one which it
+-- does not end holds of the requests after the datagram
 module _ (c : Client) (P : All → Type 0) (same : P c.requests)
     (noted : (m : ℕ) (a b : AskedSeen) → datum_of m c.requests ≡ Some a → b.until ≡ a.until
     → P (after_replacing m b c.requests))
-    (ended : (m count : ℕ) (a : AskedSeen) (moment : Option ℕ) (end : EndSeen)
-    → datum_of m c.requests ≡ Some a → P (after_answering m count moment end c.requests))
     (sent : (m id now : ℕ) (a b empty : AskedSeen) (x : Answering) (bytes : List ℕ)
     (plan : Settings) → datum_of m c.requests ≡ Some a
     → P (after_replacing m b (after_again m x id bytes plan empty now c.requests))) where
@@ -83,7 +83,7 @@ module _ (c : Client) (P : All → Type 0) (same : P c.requests)
       by None there = same
       by (Some a) there = noted m a (changed change a) there (until_stays change a)
 
-  forgone_so : (bytes : List ℕ) (o : Option Met) → P (without_memory bytes c o).1.requests
+  pub forgone_so : (bytes : List ℕ) (o : Option Met) → P (without_memory bytes c o).1.requests
   forgone_so bytes None = same
   forgone_so bytes (Some m) = changed_so (Noted Reasons.OutOfMemory (code_in bytes)) m.number
 
@@ -105,6 +105,28 @@ module _ (c : Client) (P : All → Type 0) (same : P c.requests)
     spot_so why d (Some s) =
         turned_so why d s (message_bytes c.form c.identity d s.id m.asked)
 
+    pub goes_on_so : (d : DecisionSeen) → IsNoEnd d
+        → P (by_decision memory c now bytes m d).1.requests
+    goes_on_so (answered by) goes_on = absurd goes_on
+    goes_on_so challenged_out goes_on = absurd goes_on
+    goes_on_so (turns why place d) goes_on = spot_so why d (spot_of c m.asked place)
+    goes_on_so refuses goes_on = changed_so (Refused (code_in bytes)) m.number
+    goes_on_so (drops why) goes_on = changed_so (Noted why (code_in bytes)) m.number
+
+-- and so it does if it also holds after the end of a request
+module _ (c : Client) (P : All → Type 0) (same : P c.requests)
+    (noted : (m : ℕ) (a b : AskedSeen) → datum_of m c.requests ≡ Some a → b.until ≡ a.until
+    → P (after_replacing m b c.requests))
+    (ended : (m count : ℕ) (a : AskedSeen) (moment : Option ℕ) (end : EndSeen)
+    → datum_of m c.requests ≡ Some a → P (after_answering m count moment end c.requests))
+    (sent : (m id now : ℕ) (a b empty : AskedSeen) (x : Answering) (bytes : List ℕ)
+    (plan : Settings) → datum_of m c.requests ≡ Some a
+    → P (after_replacing m b (after_again m x id bytes plan empty now c.requests))) where
+  module _ (memory : Memory) (now : ℕ) (bytes : List ℕ) (m : Met)
+      (there : datum_of m.number c.requests ≡ Some m.asked) where
+    goes_on : (d : DecisionSeen) → IsNoEnd d → P (by_decision memory c now bytes m d).1.requests
+    goes_on = goes_on_so c P same noted sent memory now bytes m there
+
     decided_so : (d : DecisionSeen) → P (by_decision memory c now bytes m d).1.requests
     decided_so (answered by) =
         ended m.number (length bytes) m.asked (moment_of now m)
@@ -113,11 +135,12 @@ module _ (c : Client) (P : All → Type 0) (same : P c.requests)
           response = bytes;
           round_trip = round_trip_of now m;
         }) there
-    decided_so unauthorized =
-        ended m.number (length bytes) m.asked (moment_of now m) (bare_end how.Unauthorized) there
-    decided_so (turns why place d) = spot_so why d (spot_of c m.asked place)
-    decided_so refuses = changed_so (Refused (code_in bytes)) m.number
-    decided_so (drops why) = changed_so (Noted why (code_in bytes)) m.number
+    decided_so challenged_out =
+        ended m.number (length bytes) m.asked (moment_of now m)
+        (bare_end (end_after m.asked.signed_for bytes)) there
+    decided_so (turns why place d) = goes_on (turns why place d) tt
+    decided_so refuses = goes_on refuses tt
+    decided_so (drops why) = goes_on (drops why) tt
 
   met_so : (memory : Memory) (from : SocketAddr) (now : ℕ) (bytes : List ℕ)
       → P (by_met memory c now bytes (heard_in from bytes c)).1.requests
@@ -159,7 +182,8 @@ module _ (c : Client) (P : All → Type 0) (same : P c.requests)
   receives_so from bytes now given (as_expected memory is) =
       subst (λ (x : Answer). P x.1.requests) (sym is) (received_so memory from bytes now)
   receives_so from bytes now given (forgone is) =
-      subst (λ (x : Answer). P x.1.requests) (sym is) (forgone_so bytes (heard_in from bytes c))
+      subst (λ (x : Answer). P x.1.requests) (sym is)
+      (forgone_so c P same noted sent bytes (heard_in from bytes c))
 
 -- ---- a request that is started
 

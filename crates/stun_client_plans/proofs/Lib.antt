@@ -22,3 +22,5 @@ pub mod SpareLemmas
 pub mod PlanLemmas
 -- ends, until they are said
 pub mod EndLemmas
+-- who refuses a request
+pub mod RefusedLemmas

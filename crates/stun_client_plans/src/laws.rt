@@ -1,5 +1,6 @@
 //! Laws about the plan of a request, and its outcome.
 ghost use Rattle.stun_client_plans.specs.Ends.{AnswersEnd, CancelsEnd, EndsAreSaidAsTheyCame};
+ghost use Rattle.stun_client_plans.specs.Ends.{OnlyRefusedRequestsAreUnauthorized};
 ghost use Rattle.stun_client_plans.specs.Plan.{RequestsAreSentByPlan};
 
 /// A request that gets no answer is sent and ends according to its plan. `poll` returns `Transmit`
@@ -62,6 +63,16 @@ pub fn ends_are_said_as_they_came()
     ensures canceled { CancelsEnd }
     ensures answered { AnswersEnd }
     ensures said { EndsAreSaidAsTheyCame }
+{
+    stun_client_runs::laws::clients_stay_in_order();
+}
+
+/// `poll` returns `Unauthorized` for a request only if a 401 arrived that answers a signed message of
+/// this request, while this message was the current one. The 401 may be forged. This holds for every
+/// sequence of calls. A client that gets other challenges only, such as six 438s, ends the request as
+/// `TooManyChallenges`.
+pub fn only_refused_requests_are_unauthorized()
+    ensures { OnlyRefusedRequestsAreUnauthorized }
 {
     stun_client_runs::laws::clients_stay_in_order();
 }

@@ -57,10 +57,11 @@ use Rattle.stun_client_calls.specs.Clients.{refusal_of_page, refusal_to_start, s
 use Rattle.stun_client_calls.specs.Clients.{started_at, started_by, started_with, told, transmit}
 use Rattle.stun_client_calls.specs.Clients.{waits, with_requests}
 use Rattle.stun_client_calls.specs.Deciding.{DecisionSeen, answered, drops, refuses, turns}
-use Rattle.stun_client_calls.specs.Deciding.{unauthorized}
+use Rattle.stun_client_calls.specs.Deciding.{challenged_out}
 use Rattle.stun_client_calls.specs.Endpoints.{EndSeen, bare_end}
 use Rattle.stun_client_calls.specs.Options.{Options, plan_by}
 use Rattle.stun_client_calls.specs.Messages.{AskedSeen, is_late, new_asked, turned}
+use Rattle.stun_client_calls.specs.Receiving.{end_after}
 use Rattle.stun_client_calls.specs.Receiving.{Answer, Memory, Met, Spot, UnlessMemory}
 use Rattle.stun_client_calls.specs.Receiving.{as_expected, by_class, by_decision, by_met, dropping}
 use Rattle.stun_client_calls.specs.Receiving.{decision_for, forgone, heard_in, moment_of, received}
@@ -238,9 +239,9 @@ quiet_decided memory c now bytes m (answered by) =
       response = bytes;
       round_trip = round_trip_of now m;
     }) c.requests
-quiet_decided memory c now bytes m unauthorized =
+quiet_decided memory c now bytes m challenged_out =
     quiet_answering m.number (length bytes) (moment_of now m)
-    (bare_end how.Unauthorized) c.requests
+    (bare_end (end_after m.asked.signed_for bytes)) c.requests
 quiet_decided memory c now bytes m (turns why place d) =
     quiet_turned memory c now bytes m why d (spot_of c m.asked place)
 quiet_decided memory c now bytes m refuses =

@@ -23,6 +23,7 @@ use Rattle.stun_client.specs.Judging.{Verdict}
 use Rattle.stun_client.specs.Outcomes.{outcome_of}
 use Rattle.stun_client.specs.Answers.{is_answer}
 use Rattle.stun_client.specs.Standing.{StandingSeen}
+use Rattle.stun_client_calls.specs.Receiving.{end_after}
 use Rattle.stun_client_calls.specs.Receiving.{is_success_class}
 use Rattle.stun_client_endpoint.specs.Written.{Page?}
 use Rattle.stun_client_endpoint.specs.declared.ended.DropReason.{DropReason}
@@ -37,7 +38,7 @@ use Rattle.stun_client_requests.proofs.NumberLemmas.{apart}
 use Rattle.stun_client_calls.specs.Clients.{Client, chosen, plan_for}
 use Rattle.stun_client_calls.specs.Deciding.{DecisionSeen, Place, answered}
 use Rattle.stun_client_calls.specs.Deciding.{decided, drops}
-use Rattle.stun_client_calls.specs.Deciding.{refuses, turns, unauthorized}
+use Rattle.stun_client_calls.specs.Deciding.{refuses, turns, challenged_out}
 use Rattle.stun_client_calls.specs.Endpoints.{EndSeen, bare_end, without_all}
 use Rattle.stun_client_calls.specs.Ids.{number_in}
 use Rattle.stun_client_calls.specs.Laws.{IsAnswerOrDrop, decision_on}
@@ -357,14 +358,14 @@ turned_at_after memory c now response m why d place is at now_current where_it_i
 -- another message becomes the current one only in place of the current one
 abbrev IfTurn : Bool → DecisionSeen → Type 0
 IfTurn is_current (answered by) = ⊤
-IfTurn is_current unauthorized = ⊤
+IfTurn is_current challenged_out = ⊤
 IfTurn is_current (turns why place d) = is_current ≡ true
 IfTurn is_current refuses = ⊤
 IfTurn is_current (drops why) = ⊤
 
 turn_of_current : (b : Bool) (v : DecisionSeen) → (b ≡ false → IsAnswerOrDrop v) → IfTurn b v
 turn_of_current b (answered by) quiet = tt
-turn_of_current b unauthorized quiet = tt
+turn_of_current b challenged_out quiet = tt
 turn_of_current true (turns why place d) quiet = refl
 turn_of_current false (turns why place d) quiet = absurd (quiet refl)
 turn_of_current b refuses quiet = tt
@@ -373,7 +374,7 @@ turn_of_current b (drops why) quiet = tt
 -- it does so less often than it may
 abbrev IfRanked : Client → AskedSeen → DecisionSeen → Type 0
 IfRanked c a (answered by) = ⊤
-IfRanked c a unauthorized = ⊤
+IfRanked c a challenged_out = ⊤
 IfRanked c a (turns why place d) =
     NotesMessages c → IsPlace (IsOf a) place × (a.turns < c.turns)
 IfRanked c a refuses = ⊤
@@ -383,7 +384,7 @@ ranked_if : (c : Client) (now : ℕ) (a : AskedSeen) (w : Verdict) (v : Decision
     → (NotesMessages c → AreRanked c.turns a)
     → decided (judge_for c a).limits c.standing now a w ≡ v → IfRanked c a v
 ranked_if c now a w (answered by) ranked is = tt
-ranked_if c now a w unauthorized ranked is = tt
+ranked_if c now a w challenged_out ranked is = tt
 ranked_if c now a w (turns why place d) ranked is = λ notes.
     let its = ranked notes in (
       subst (IsPlaced (IsOf a)) is
@@ -418,8 +419,8 @@ decided_after memory c now bytes m (answered by) is at where_it_is turn ranks =
       response = bytes;
       round_trip = round_trip_of now m;
     }) bytes now m is at.stored
-decided_after memory c now bytes m unauthorized is at where_it_is turn ranks =
-    ended_after c c.standing (bare_end how.Unauthorized) bytes now m is at.stored
+decided_after memory c now bytes m challenged_out is at where_it_is turn ranks =
+    ended_after c c.standing (bare_end (end_after m.asked.signed_for bytes)) bytes now m is at.stored
 decided_after memory c now bytes m (turns why place d) is at where_it_is turn ranks =
     turned_at_after memory c now bytes m why d place is at turn where_it_is ranks
 decided_after memory c now bytes m refuses is at where_it_is turn ranks =

@@ -15,7 +15,7 @@ use Rattle.stun_client_requests.specs.declared.requests.Request.{Request}
 use Rattle.stun_client_calls.specs.Clients.{Client, Poll, Told, by_polled, ends, given_up}
 use Rattle.stun_client_calls.specs.Clients.{handed_out_of, new_client, sent_by, told, with_requests}
 use Rattle.stun_client_calls.specs.Deciding.{DecisionSeen, answered, drops, refuses, turns}
-use Rattle.stun_client_calls.specs.Deciding.{unauthorized}
+use Rattle.stun_client_calls.specs.Deciding.{challenged_out}
 use Rattle.stun_client_calls.specs.Endpoints.{EndSeen}
 use Rattle.stun_client_calls.specs.Laws.{IsAnswerOrDrop}
 use Rattle.stun_client_calls.specs.Messages.{AskedSeen, is_late, stepped_back}
@@ -121,7 +121,7 @@ module _ (begins : BeginsAsClient) (stays : StaysAClient) (c : Client) (r : IsRe
           → (by_decision memory c now bytes m d).1.standing ≡ c.standing
       left (answered signed_by) is =
           confirming_none (is_success_class (class_in bytes)) c.standing m.signed_for none
-      left unauthorized is = absurd is
+      left challenged_out is = absurd is
       left (turns why place d) is = absurd is
       left refuses is = absurd is
       left (drops why) is = refl
@@ -136,7 +136,7 @@ module _ (begins : BeginsAsClient) (stays : StaysAClient) (c : Client) (r : IsRe
             response = bytes;
             round_trip = round_trip_of now m;
           })
-      others_left other another unauthorized is = absurd is
+      others_left other another challenged_out is = absurd is
       others_left other another (turns why place d) is = absurd is
       others_left other another refuses is = absurd is
       others_left other another (drops why) is =

@@ -114,7 +114,7 @@ module _ (stays : StaysAClient) (transmits : TransmitsWhatIsThere) (identity : I
       rest) =
       absurd (never_asked c bytes m (anew x) (off_met c from bytes m is held hears named) verdict)
   once w c count later is held
-      (refused_by _ _ next _ memory from bytes now n m low hears named verdict comes rest) =
+      (refused_by _ _ next _ memory from bytes now n m low hears named some_signed verdict comes rest) =
       absurd (never_asked c bytes m (refused None) (off_met c from bytes m is held hears named)
       verdict)
   once w c count later is held (between _ _ next _ events n calls unsent untouched rest) =
@@ -162,13 +162,13 @@ first_is c method body options start a one = by (chosen c)
     by None some = fresh some
     by (Some number) some = page number (first_message c method number body options) some
 
-up_to_three : (count : ℕ) (u x : Bool) → count + 0 ≤ cond u 1 0 + cond x 1 2 → count ≤ 3
+up_to_three : (count : ℕ) (u x : Bool) → count + 0 ≤ cond u 3 (cond x 1 2) → count ≤ 3
 up_to_three count true true low = omega (arith, low)
 up_to_three count true false low = omega (arith, low)
 up_to_three count false true low = omega (arith, low)
 up_to_three count false false low = omega (arith, low)
 
-up_to_two : (count : ℕ) (u x : Bool) → u ≡ false → count + 0 ≤ cond u 1 0 + cond x 1 2 → count ≤ 2
+up_to_two : (count : ℕ) (u x : Bool) → u ≡ false → count + 0 ≤ cond u 3 (cond x 1 2) → count ≤ 2
 up_to_two count true x off low = cc
 up_to_two count false true off low = omega (arith, low)
 up_to_two count false false off low = omega (arith, low)

@@ -2,7 +2,7 @@
 use Rattle.std.proofs.Common.{◌≡◌, ◌∙◌, ◌≤◌, ◌+◌, ℕ, Bool, true, false, List, [], ◌∷◌, length}
 use Rattle.std.proofs.Common.{Option, Some, None, Ok, Err, ap, arith, cond, refl, subst, sym}
 use Rattle.std.specs.Bool.{⊤}
-use Rattle.std.specs.Option.{is_none, option_and_then, option_map}
+use Rattle.std.specs.Option.{IsSome, is_none, option_and_then, option_map}
 use Rattle.std.specs.Prelude.{◌||◌}
 use Rattle.std.specs.declared.net.socket_addr.SocketAddr.{SocketAddr}
 use Rattle.stun_base.specs.Header.{transaction_id_field}
@@ -11,7 +11,7 @@ use Rattle.stun_client.specs.Challenges.{Answered}
 use Rattle.stun_client.specs.Challenging.{code_in}
 use Rattle.stun_client.specs.Judging.{anew, refused}
 use Rattle.stun_client_endpoint.specs.Settings.{is_reliable}
-use Rattle.stun_client_endpoint.specs.Refusals.{after_refusal, after_sending}
+use Rattle.stun_client_endpoint.specs.Refusals.{after_refusal, after_turn}
 use Rattle.stun_client_endpoint.specs.Written.{Page?}
 use Rattle.stun_client_endpoint.specs.declared.ended.DropReason.TheVariants.{LateChallenge}
 use Rattle.stun_client_endpoint.specs.declared.ended.RequestEnd.TheVariants as how
@@ -23,13 +23,14 @@ use Rattle.stun_client_requests.specs.declared.requests.Polled.TheVariants as Of
 use Rattle.stun_client_calls.specs.Clients.{Client, Poll, Told, by_polled, changed_at, given_up}
 use Rattle.stun_client_calls.specs.Clients.{handed_out_of, sent_by, told, transmit, with_requests}
 use Rattle.stun_client_calls.specs.Deciding.{drops, is_spent, place_of, refuses, turns_for}
-use Rattle.stun_client_calls.specs.Deciding.{unauthorized}
+use Rattle.stun_client_calls.specs.Deciding.{challenged_out}
 use Rattle.stun_client_calls.specs.Messages.{is_late, AskedSeen, is_late as is_late_in}
 use Rattle.stun_client_calls.specs.Messages.{message_for, refusing, sent_out, turned}
 use Rattle.stun_client_calls.specs.Endpoints.{EndSeen, bare_end}
+use Rattle.stun_client_calls.specs.Receiving.{end_after}
 use Rattle.stun_client_calls.specs.Receiving.{Answer, Memory, Met, Spot, as_expected, by_decision}
 use Rattle.stun_client_calls.specs.Receiving.{judge_for, moment_of, received, spot_of, turn_to}
-use Rattle.stun_client_calls.specs.Receiving.{turned_at, turned_by, unauthorized_by}
+use Rattle.stun_client_calls.specs.Receiving.{turned_at, turned_by, challenged_out_by}
 use Rattle.stun_client_calls.specs.Runs.{Call, Event, call, no_call, polled as says_so, polls}
 use Rattle.stun_client_calls.specs.Runs.{receives, silent}
 use Rattle.stun_client_calls.specs.Writing.{message_bytes}
@@ -50,11 +51,11 @@ use Rattle.stun_client_strength.proofs.RefusingLemmas.{changed_is, decides, ende
 -- of a request that a response has ended, nothing
 ended_none : (c : Client) (now : ℕ) (bytes : List ℕ) (m : Met)
     → datum_of m.number c.requests ≡ Some m.asked
-    → datum_of m.number (unauthorized_by c now bytes m).1.requests ≡ None
+    → datum_of m.number (challenged_out_by c now bytes m).1.requests ≡ None
 ended_none c now bytes m some =
-    ap (λ o. datum_in (unauthorized_by c now bytes m).1.requests (option_and_then id_in o))
+    ap (λ o. datum_in (challenged_out_by c now bytes m).1.requests (option_and_then id_in o))
     (ended_there m.number (length bytes) (moment_of now m)
-    (bare_end how.Unauthorized) m.asked c.requests some)
+    (bare_end (end_after m.asked.signed_for bytes)) m.asked c.requests some)
 
 -- what one response leaves of a request
 pub record IsLeft (signed_for : Option Answered → Type 0) (refusals : Refusals) (b : AskedSeen)
@@ -83,10 +84,10 @@ module _ (memory : Memory) (from : SocketAddr) (bytes : List ℕ) (now : ℕ) (c
       by (is_reliable c.requests.table.transport) m.asked.refusals.is_earlier refl
       (sym (ap (λ (a : Answer). a.1)
       (decides memory from bytes now c m hears (refused None)
-      (cond (is_reliable c.requests.table.transport || m.asked.refusals.is_earlier) unauthorized
+      (cond (is_reliable c.requests.table.transport || m.asked.refusals.is_earlier) challenged_out
       refuses) verdict refl)) ∙ is)
     where
-      ended : (unauthorized_by c now bytes m).1 ≡ next
+      ended : (challenged_out_by c now bytes m).1 ≡ next
           → (m.asked.refusals.is_earlier ≡ false)
           × IsLeft (λ o. o ≡ m.asked.signed_for) (after_refusal m.asked.refusals) b
       ended same =
@@ -95,7 +96,7 @@ module _ (memory : Memory) (from : SocketAddr) (bytes : List ℕ) (now : ℕ) (c
           (ended_none c now bytes m stored)) some
 
       by : (reliable earlier : Bool) → m.asked.refusals.is_earlier ≡ earlier
-          → (by_decision memory c now bytes m (cond (reliable || earlier) unauthorized refuses)).1
+          → (by_decision memory c now bytes m (cond (reliable || earlier) challenged_out refuses)).1
           ≡ next
           → (m.asked.refusals.is_earlier ≡ false)
           × IsLeft (λ o. o ≡ m.asked.signed_for) (after_refusal m.asked.refusals) b
@@ -120,17 +121,17 @@ module _ (memory : Memory) (from : SocketAddr) (bytes : List ℕ) (now : ℕ) (c
   challenged_left : (x : Answered) → response_verdict c bytes m ≡ anew x
       → received memory from bytes now c ≡ (Consumed, next) → (b : AskedSeen)
       → datum_of m.number next.requests ≡ Some b
-      → IsLeft (λ o. is_none o ≡ false) (after_sending false m.asked.refusals) b
+      → IsLeft (λ o. is_none o ≡ false) (after_turn false m.asked.refusals) b
   challenged_left x verdict is b some =
       by (is_late now m.asked) (is_spent (judge_for c m.asked).limits m.asked)
       (sym (decides memory from bytes now c m hears (anew x)
       (cond (is_late now m.asked) (drops LateChallenge)
-      (cond (is_spent (judge_for c m.asked).limits m.asked) unauthorized
+      (cond (is_spent (judge_for c m.asked).limits m.asked) challenged_out
       (turns_for Why.Challenged x m.asked))) verdict refl) ∙ is)
     where
       by_page : (s : Spot) (page : Page?)
           → turned_by memory c now bytes m Why.Challenged (Some x) s page ≡ (Consumed, next)
-          → IsLeft (λ o. is_none o ≡ false) (after_sending false m.asked.refusals) b
+          → IsLeft (λ o. is_none o ≡ false) (after_turn false m.asked.refusals) b
       by_page s (Err why) same = let no = ap (λ (a : Answer). a.0) same in cc
       by_page s (Ok page) same =
           let after = ap (λ (a : Answer). a.1.requests) same in
@@ -144,15 +145,15 @@ module _ (memory : Memory) (from : SocketAddr) (bytes : List ℕ) (now : ℕ) (c
 
       at_spot : (o : Option Spot)
           → turned_at memory c now bytes m Why.Challenged (Some x) o ≡ (Consumed, next)
-          → IsLeft (λ o. is_none o ≡ false) (after_sending false m.asked.refusals) b
+          → IsLeft (λ o. is_none o ≡ false) (after_turn false m.asked.refusals) b
       at_spot None same = let no = ap (λ (a : Answer). a.0) same in cc
       at_spot (Some s) same =
           by_page s (message_bytes c.form c.identity (Some x) s.id m.asked) same
 
       by : (late spent : Bool)
           → by_decision memory c now bytes m (cond late (drops LateChallenge)
-          (cond spent unauthorized (turns_for Why.Challenged x m.asked))) ≡ (Consumed, next)
-          → IsLeft (λ o. is_none o ≡ false) (after_sending false m.asked.refusals) b
+          (cond spent challenged_out (turns_for Why.Challenged x m.asked))) ≡ (Consumed, next)
+          → IsLeft (λ o. is_none o ≡ false) (after_turn false m.asked.refusals) b
       by true spent same = let no = ap (λ (a : Answer). a.0) same in cc
       by false true same =
           nothing_left m.number next.requests b _
@@ -220,10 +221,10 @@ module _ (now number : ℕ) (c next : Client) (b : AskedSeen) (one : IsOne c.req
 
 -- ---- how often the bytes are handed out
 
--- once for a message that is not signed, and twice for a signed one, or once if it was refused
+-- twice for a signed message, or once if it was refused, and once more for a message that is not
+-- signed
 abbrev units : Option Answered → Refusals → ℕ
-units signed_for f =
-    cond (is_none signed_for) 1 0 + cond (f.is_earlier || f.is_recent) 1 2
+units signed_for f = cond (is_none signed_for) 3 (cond (f.is_earlier || f.is_recent) 1 2)
 
 abbrev units_of : AskedSeen → ℕ
 units_of a = units a.signed_for a.refusals
@@ -232,13 +233,16 @@ abbrev pub IsBound : Bool → ℕ → Option AskedSeen → Type 0
 IsBound is_waiting count None = count ≤ 0
 IsBound is_waiting count (Some a) = count + cond is_waiting 1 0 ≤ units_of a
 
--- a message that waits was not refused since it was sent
+-- a message that waits was sent, and was not refused since then
+abbrev IsSentFresh : Refusals → Type 0
+IsSentFresh f = (f.is_recent ≡ false) × (f.is_sent ≡ true)
+
 abbrev pub IsFresh : Bool → Option AskedSeen → Type 0
 IsFresh is_waiting None = ⊤
-IsFresh is_waiting (Some a) = is_waiting ≡ true → a.refusals.is_recent ≡ false
+IsFresh is_waiting (Some a) = is_waiting ≡ true → IsSentFresh a.refusals
 
 no_more : (count : ℕ) (w u x : Bool) → count ≤ 0
-    → count + cond w 1 0 ≤ cond u 1 0 + cond x 1 2
+    → count + cond w 1 0 ≤ cond u 3 (cond x 1 2)
 no_more count true true true low = omega (arith, low)
 no_more count true true false low = omega (arith, low)
 no_more count true false true low = omega (arith, low)
@@ -248,26 +252,30 @@ no_more count false true false low = omega (arith, low)
 no_more count false false true low = omega (arith, low)
 no_more count false false false low = omega (arith, low)
 
-one_more : (count k : ℕ) (x : Bool) → count + 1 ≤ k + cond (x || false) 1 2
-    → count + 1 + 0 ≤ k + cond x 1 2
-one_more count k true low = omega (arith, low)
-one_more count k false low = omega (arith, low)
+one_more : (count : ℕ) (u x : Bool) → count + 1 ≤ cond u 3 (cond (x || false) 1 2)
+    → count + 1 + 0 ≤ cond u 3 (cond x 1 2)
+one_more count true true low = omega (arith, low)
+one_more count true false low = omega (arith, low)
+one_more count false true low = omega (arith, low)
+one_more count false false low = omega (arith, low)
 
-challenged_more : (count : ℕ) (w x : Bool) → count + 0 ≤ 0 + cond (x || false) 1 2
-    → count + cond w 1 0 ≤ 1 + cond x 1 2
-challenged_more count true true low = omega (arith, low)
-challenged_more count true false low = omega (arith, low)
-challenged_more count false true low = omega (arith, low)
-challenged_more count false false low = omega (arith, low)
+challenged_more : (count : ℕ) (w x : Bool) → count + 0 ≤ 2 → count + cond w 1 0 ≤ 3
+challenged_more count true x low = omega (arith, low)
+challenged_more count false x low = omega (arith, low)
 
-refused_more : (count k : ℕ) (w e r : Bool) → e ≡ false → (w ≡ true → r ≡ false)
-    → count + 0 ≤ k + cond (e || true) 1 2 → count + cond w 1 0 ≤ k + cond (e || r) 1 2
-refused_more count k w true r off fresh low = cc
-refused_more count k true false true off fresh low =
-    let no : true ≡ false = fresh refl in cc
-refused_more count k true false false off fresh low = omega (arith, low)
-refused_more count k false false true off fresh low = omega (arith, low)
-refused_more count k false false false off fresh low = omega (arith, low)
+refused_more : (count : ℕ) (w e r s u : Bool) → u ≡ false → e ≡ false
+    → (w ≡ true → (r ≡ false) × (s ≡ true)) → count + 0 ≤ cond u 3 (cond (e || (r || s)) 1 2)
+    → count + cond w 1 0 ≤ cond u 3 (cond (e || r) 1 2)
+refused_more count w e r s true signed off fresh low = cc
+refused_more count w true r s false signed off fresh low = cc
+refused_more count true false true s false signed off fresh low =
+    let no : true ≡ false = (fresh refl).0 in cc
+refused_more count true false false true false signed off fresh low = omega (arith, low)
+refused_more count true false false false false signed off fresh low =
+    let no : false ≡ true = (fresh refl).1 in cc
+refused_more count false false true s false signed off fresh low = omega (arith, low)
+refused_more count false false false true false signed off fresh low = omega (arith, low)
+refused_more count false false false false false signed off fresh low = omega (arith, low)
 
 -- a request that is over takes none
 none_more : (count : ℕ) (w : Bool) (o : Option AskedSeen) → count ≤ 0 → IsBound w count o
@@ -278,27 +286,31 @@ none_more count w (Some a) low =
 sent_bound : (now count : ℕ) (a b : AskedSeen) → sent_out now a ≡ b → count + 1 ≤ units_of b
     → count + 1 + 0 ≤ units_of a
 sent_bound now count a b same low =
-    one_more count (cond (is_none a.signed_for) 1 0)
+    one_more count (is_none a.signed_for)
     (a.refusals.is_earlier || a.refusals.is_recent)
     (subst (λ (x : AskedSeen). count + 1 ≤ units_of x) (sym same) low)
 
 challenged_bound : (count : ℕ) (w : Bool) (a b : AskedSeen) → a.signed_for ≡ None
-    → IsLeft (λ o. is_none o ≡ false) (after_sending false a.refusals) b
+    → IsLeft (λ o. is_none o ≡ false) (after_turn false a.refusals) b
     → count + 0 ≤ units_of b → count + cond w 1 0 ≤ units_of a
 challenged_bound count w a b unsigned left low =
     subst (λ (o : Option Answered). count + cond w 1 0 ≤ units o a.refusals) (sym unsigned)
     (challenged_more count w (a.refusals.is_earlier || a.refusals.is_recent)
-    (subst (λ (f : Refusals). count + 0 ≤ 0 + cond (f.is_earlier || f.is_recent) 1 2) left.counts
-    (subst (λ u. count + 0 ≤ cond u 1 0 + cond (b.refusals.is_earlier || b.refusals.is_recent) 1 2)
+    (subst (λ (f : Refusals). count + 0 ≤ cond (f.is_earlier || f.is_recent) 1 2) left.counts
+    (subst (λ u. count + 0 ≤ cond u 3 (cond (b.refusals.is_earlier || b.refusals.is_recent) 1 2))
     left.signed low)))
 
-refused_bound : (count : ℕ) (w : Bool) (a b : AskedSeen) → a.refusals.is_earlier ≡ false
-    → (w ≡ true → a.refusals.is_recent ≡ false)
+signed_one : (o : Option Answered) → IsSome o → is_none o ≡ false
+signed_one None some = cc
+signed_one (Some x) some = refl
+
+refused_bound : (count : ℕ) (w : Bool) (a b : AskedSeen) → IsSome a.signed_for
+    → a.refusals.is_earlier ≡ false → (w ≡ true → IsSentFresh a.refusals)
     → IsLeft (λ o. o ≡ a.signed_for) (after_refusal a.refusals) b → count + 0 ≤ units_of b
     → count + cond w 1 0 ≤ units_of a
-refused_bound count w a b off fresh left low =
-    refused_more count (cond (is_none a.signed_for) 1 0) w a.refusals.is_earlier
-    a.refusals.is_recent off fresh
+refused_bound count w a b some off fresh left low =
+    refused_more count w a.refusals.is_earlier a.refusals.is_recent a.refusals.is_sent
+    (is_none a.signed_for) (signed_one a.signed_for some) off fresh
     (subst (λ (f : Refusals). count + 0 ≤ units a.signed_for f) left.counts
     (subst (λ (o : Option Answered). count + 0 ≤ units o b.refusals) left.signed low))
 
@@ -329,7 +341,7 @@ module _ (stays : StaysAClient) (transmits : TransmitsWhatIsThere) (number : ℕ
       (transmits now number c next is said) in
       let left = sent_left now number c next out.asked is.requests.one out.there said in
       let low = costs true next n later next_is rest (Some out.asked) out.there
-      (λ so. ap (λ (x : AskedSeen). x.refusals.is_recent) (sym left.same)) in
+      (λ so. subst (λ (x : AskedSeen). IsSentFresh x.refusals) left.same (refl, refl)) in
       subst (λ (x : Option AskedSeen). IsBound false (n + 1) x) (sym left.there ∙ there)
       (sent_bound now n left.before out.asked left.same low)
   costs w c count later is
@@ -358,8 +370,8 @@ module _ (stays : StaysAClient) (transmits : TransmitsWhatIsThere) (number : ℕ
           (challenged_left memory from bytes now c next m hears x verdict comes b
           (ap (λ k. datum_of k next.requests) named ∙ some)) bound)
   costs w c count later is
-      (refused_by _ _ next _ memory from bytes now n m low hears named verdict comes rest) o there
-      fresh =
+      (refused_by _ _ next _ memory from bytes now n m low hears named some_signed verdict comes
+      rest) o there fresh =
       by (datum_of number next.requests) refl
       (costs false next n later
       (heard_client memory from bytes now c next is low comes) rest
@@ -381,7 +393,7 @@ module _ (stays : StaysAClient) (transmits : TransmitsWhatIsThere) (number : ℕ
           let left = refused_left memory from bytes now c next m hears verdict comes b
           (ap (λ k. datum_of k next.requests) named ∙ some) in
           subst (λ (y : Option AskedSeen). IsBound w n y) (sym met ∙ there)
-          (refused_bound n w m.asked b left.0
+          (refused_bound n w m.asked b some_signed left.0
           (subst (λ (y : Option AskedSeen). IsFresh w y) (sym there ∙ met) fresh) left.1 bound)
   costs w c count later is (between _ _ next _ events n calls unsent untouched rest) o there fresh =
       by (datum_of number next.requests) refl
@@ -396,10 +408,10 @@ module _ (stays : StaysAClient) (transmits : TransmitsWhatIsThere) (number : ℕ
       by (Some b) some bounds =
           let u = untouched b some in
           let same : o ≡ Some u.before = sym there ∙ u.there in
-          let was : w ≡ true → u.before.refusals.is_recent ≡ false =
+          let was : w ≡ true → IsSentFresh u.before.refusals =
           subst (λ (y : Option AskedSeen). IsFresh w y) same fresh in
           let bound = bounds (Some b) some
-          (λ so. ap (λ (f : Refusals). f.is_recent) (sym u.refusals) ∙ was so) in
+          (λ so. subst IsSentFresh u.refusals (was so)) in
           subst (λ (y : Option AskedSeen). IsBound w n y) (sym same)
           (subst (λ (s : Option Answered). n + cond w 1 0 ≤ units s u.before.refusals)
           (sym u.signed_for)

@@ -19,6 +19,7 @@ use Rattle.stun_client.specs.Ids.{id_of}
 use Rattle.stun_client.specs.Judging.{Identity}
 use Rattle.stun_client.specs.Outcomes.{outcome_of}
 use Rattle.stun_client.specs.Standing.{StandingSeen, after_success}
+use Rattle.stun_client_calls.specs.Receiving.{end_after}
 use Rattle.stun_client_calls.specs.Receiving.{is_success_class, Answer, Memory, Met, Spot}
 use Rattle.stun_client_calls.specs.Receiving.{UnlessMemory, answered_by, answered_in, as_current}
 use Rattle.stun_client_calls.specs.Receiving.{as_earlier, as_expected, by_class, by_decision}
@@ -45,7 +46,7 @@ use Rattle.stun_client_calls.specs.Clients.{changed_at, chosen, ends, first_aske
 use Rattle.stun_client_calls.specs.Clients.{given_up, handed_out_of, sent_by, started, started_at}
 use Rattle.stun_client_calls.specs.Clients.{started_with, told, with_requests}
 use Rattle.stun_client_calls.specs.Deciding.{DecisionSeen, Place, answered, drops, refuses, turns}
-use Rattle.stun_client_calls.specs.Deciding.{unauthorized}
+use Rattle.stun_client_calls.specs.Deciding.{challenged_out}
 use Rattle.stun_client_calls.specs.Endpoints.{EndSeen, bare_end}
 use Rattle.stun_client_calls.specs.Ids.{number_in}
 use Rattle.stun_client_calls.specs.Laws.{Judge, decision_on}
@@ -393,8 +394,8 @@ module _ (identity : Identity) (form : Form) (from : ℕ) (Stands : StandingSeen
           response = bytes;
           round_trip = round_trip_of now m;
         })
-    decided_held unauthorized decides =
-        ended_held (bare_end how.Unauthorized) bytes now m c one held
+    decided_held challenged_out decides =
+        ended_held (bare_end (end_after m.asked.signed_for bytes)) bytes now m c one held
     decided_held (turns why place d) decides = at_spot (spot_of c m.asked place)
       where
         by_page : (s : Spot) (page : Page?)

@@ -10,6 +10,8 @@ pub mod HeldLemmas
 pub mod RuleLemmas
 -- no weaker challenges
 pub mod StrengthLemmas
+-- refusals answer signed messages
+pub mod RefusedLemmas
 -- what a refusal comes to
 pub mod RefusingLemmas
 -- how often the bytes of a request are handed out that is refused

@@ -1,9 +1,10 @@
 -- What a refusal comes to, by what is stored of its request.
-use Rattle.std.proofs.Common.{◌≡◌, ◌∙◌, ◌⊎◌, ◌≤◌, ◌+◌, inl, inr, ℕ, Bool, true, false, List, []}
+use Rattle.std.proofs.Common.{◌≡◌, ◌∙◌, ◌⊎◌, ◌<◌, ◌≤◌, ◌+◌, inl, inr, ℕ, Bool, true, false, List}
+use Rattle.std.proofs.Common.{[]}
 use Rattle.std.proofs.Common.{◌∷◌, length, Option, Some, None, ap, arith, cond, refl, subst, sym}
 use Rattle.std.specs.Bool.{⊤}
 use Rattle.std.specs.Option.{is_some, option_and_then, option_map, option_map_or}
-use Rattle.std.specs.Prelude.{◌||◌, nat_le}
+use Rattle.std.specs.Prelude.{◌&&◌, ◌||◌, min, nat_le}
 use Rattle.std.specs.declared.net.socket_addr.SocketAddr.{SocketAddr}
 use Rattle.std.proofs.lemmas.Bool.{eqb-true, le-leb, le-ltb}
 use Rattle.stun_base.specs.MessageType.{class_in, is_response}
@@ -13,6 +14,7 @@ use Rattle.stun_base.specs.declared.wire.transport.TransportType.TheVariants.{Tc
 use Rattle.stun_types.specs.Message.{refusal}
 use Rattle.stun_agent.specs.Tables.{after_answer, datum_at, set_datum, with_other_datum}
 use Rattle.stun_agent.proofs.Ascending.{lookup-insert_same}
+use Rattle.stun_judging.specs.Reading.{UNAUTHORIZED, is_code}
 use Rattle.stun_client.specs.Challenges.{Answered}
 use Rattle.stun_client.specs.Challenging.{code_in}
 use Rattle.stun_client.specs.Judging.{Identity, Verdict, refused}
@@ -21,7 +23,9 @@ use Rattle.stun_client_endpoint.specs.Settings.{is_reliable}
 use Rattle.stun_client_endpoint.specs.Refusals.{OTHERS}
 use Rattle.stun_client_endpoint.specs.Written.{Form}
 use Rattle.stun_client_endpoint.specs.declared.ended.DropReason.TheVariants.{LateChallenge}
+use Rattle.stun_client_endpoint.specs.declared.ended.RequestEnd.{RequestEnd}
 use Rattle.stun_client_endpoint.specs.declared.ended.RequestEnd.TheVariants as how
+use Rattle.stun_client_endpoint.specs.declared.refusals.Refusals.{Refusals}
 use Rattle.stun_client_endpoint.specs.declared.told.Received.TheVariants.{NotOurs}
 use Rattle.stun_client_requests.specs.Numbers.{after_end, id_at, id_in, known_at}
 use Rattle.stun_client_requests.specs.Requests.{Poll as PollOf, after_answering, after_replacing}
@@ -33,16 +37,16 @@ use Rattle.stun_client_requests.proofs.RequestLemmas.{set_same}
 use Rattle.stun_client_requests.proofs.TimelyLemmas.{named_is_one}
 use Rattle.stun_client_calls.specs.Clients.{Client, Poll, Told, by_polled, changed, changed_at}
 use Rattle.stun_client_calls.specs.Clients.{ends, given_up as given_up_at, handed_out_of, sent_by}
-use Rattle.stun_client_calls.specs.Clients.{told, transmit, waits, with_requests}
+use Rattle.stun_client_calls.specs.Clients.{identity_for, told, transmit, waits, with_requests}
 use Rattle.stun_client_calls.specs.Deciding.{DecisionSeen, decided, drops, is_spent}
 use Rattle.stun_client_calls.specs.Messages.{is_late}
-use Rattle.stun_client_calls.specs.Deciding.{refuses, turns_for, unauthorized}
+use Rattle.stun_client_calls.specs.Deciding.{refuses, turns_for, challenged_out}
 use Rattle.stun_client_calls.specs.Endpoints.{EndSeen, bare_end}
-use Rattle.stun_client_calls.specs.Messages.{AskedSeen, refusing, sent_out}
+use Rattle.stun_client_calls.specs.Messages.{AskedSeen, TurnSeen, refusing, sent_out, turned}
 use Rattle.stun_client_calls.specs.Receiving.{Memory, Met, by_class}
 use Rattle.stun_client_calls.specs.Receiving.{by_decision, by_met, dropping_refusal, heard_in}
 use Rattle.stun_client_calls.specs.Receiving.{judge_for}
-use Rattle.stun_client_calls.specs.Receiving.{received, unauthorized_by}
+use Rattle.stun_client_calls.specs.Receiving.{received, challenged_out_by, end_after}
 use Rattle.stun_client_calls.specs.Runs.{Call, Calls, Event, call, changes_nothing, ends_one}
 use Rattle.stun_client_calls.specs.Runs.{no_call, polled as says_so, polls, receives, requests}
 use Rattle.stun_client_calls.specs.declared.asked.Change.{Change}
@@ -52,12 +56,13 @@ use Rattle.stun_client_calls.proofs.TurnLemmas.{All, IsOne, some_is}
 use Rattle.stun_client_runs.specs.Kept.{IsClient, StaysAClient}
 use Rattle.stun_client_strength.specs.Hearing.{message_answered, response_verdict}
 use Rattle.stun_client_strength.specs.Refusing.{IsGivenUp, IsRemembered, is_sending, is_sent_in}
-use Rattle.stun_client_strength.specs.Refusing.{sends}
+use Rattle.stun_client_strength.specs.Refusing.{end_of_refusal, sends}
 use Rattle.stun_client_strength.specs.Strength.{OfCall, OfEachPoll}
 use Rattle.stun_client_runs.proofs.EachAtLemmas.{Each, datum_in, is_there, numbered, replaced_is}
 use Rattle.stun_client_runs.proofs.EachAtLemmas.{stored_one}
 use Rattle.stun_client_strength.proofs.HeldLemmas.{AreHeld, AreRules, IsMet, call_held, calls_held}
 use Rattle.stun_client_strength.proofs.HeldLemmas.{heard_is, met_of}
+use Rattle.stun_client_strength.proofs.RefusedLemmas.{refused_of_signed}
 use Rattle.stun_client_runs.proofs.PollAtLemmas.{polls_each}
 
 or_right : (a b : Bool) → b ≡ true → (a || b) ≡ true
@@ -71,6 +76,15 @@ or_left false b is = cc
 none_of : (a b : Bool) → a ≡ false → b ≡ false → (a || b) ≡ false
 none_of true b one other = cc
 none_of false b one other = other
+
+or_off : (a b : Bool) → b ≡ false → (a || b) ≡ a
+or_off true b is = refl
+or_off false b is = is
+
+or_more : (a b c : Bool) → (a || b) ≡ true → (a || (b || c)) ≡ true
+or_more true b c is = refl
+or_more false true c is = refl
+or_more false false c is = cc
 
 -- ---- the message that is answered
 
@@ -171,32 +185,58 @@ module _ (memory : Memory) (from : SocketAddr) (bytes : List ℕ) (now : ℕ) (c
   decides v d is so =
       comes_to v is ∙ ap (λ (x : DecisionSeen). by_decision memory c now bytes m x) so
 
+  -- the message is signed, and with another challenge the refusal is a 401
+  of_signed : (o : Option Answered) → response_verdict c bytes m ≡ refused o
+      → (is_some m.asked.signed_for ≡ true)
+      × (is_some o ≡ true → is_code UNAUTHORIZED (code_in bytes) ≡ true)
+  of_signed o is =
+      let its = refused_of_signed c.standing bytes c.requires_fingerprint m.is_current
+      (identity_for c m.asked) m.signed_for o is in
+      let current = (heard_met from bytes c m hears).current its.0 in
+      (ap is_some (sym current) ∙ its.1.0, its.1.1)
+
+  ends_so : (o : Option Answered) → response_verdict c bytes m ≡ refused o
+      → end_after m.asked.signed_for bytes ≡ end_of_refusal bytes
+  ends_so o is =
+      ap (λ b. cond (b && is_code UNAUTHORIZED (code_in bytes)) how.Unauthorized
+      how.TooManyChallenges) (of_signed o is).0
+
+  ends_as_refused : (x : Answered) → response_verdict c bytes m ≡ refused (Some x)
+      → end_after m.asked.signed_for bytes ≡ how.Unauthorized
+  ends_as_refused x is =
+      ends_so (Some x) is
+      ∙ ap (λ b. cond b how.Unauthorized how.TooManyChallenges) ((of_signed (Some x) is).1 refl)
+
   -- a request is given up
-  is_given_up : received memory from bytes now c ≡ unauthorized_by c now bytes m
-      → IsGivenUp memory from bytes now m.number c
-  is_given_up is = record {
-    next = (unauthorized_by c now bytes m).1;
+  is_given_up : (end : RequestEnd) → end_after m.asked.signed_for bytes ≡ end
+      → received memory from bytes now c ≡ challenged_out_by c now bytes m
+      → IsGivenUp memory from bytes now m.number end c
+  is_given_up end is_end is = record {
+    next = (challenged_out_by c now bytes m).1;
     consumed = is;
-    ended = ended_there m.number (length bytes) _ (bare_end how.Unauthorized)
-        m.asked c.requests (heard_met from bytes c m hears).stored;
+    ended = ended_there m.number (length bytes) _
+        (bare_end (end_after m.asked.signed_for bytes)) m.asked c.requests
+        (heard_met from bytes c m hears).stored
+        ∙ ap (λ (e : RequestEnd). Some (Ended (bare_end e))) is_end;
   }
 
   pub is_remembered : response_verdict c bytes m ≡ refused None → c.requests.table.transport ≡ Udp
       → m.asked.refusals.is_earlier ≡ false
-      → IsRemembered memory from bytes now m.number m.asked.signed_for c
+      → IsRemembered memory from bytes now m.number m.asked c
   is_remembered is transport first =
       let stored = (heard_met from bytes c m hears).stored in
       let same = changed_is (Refused (code_in bytes)) m.number m.asked c.requests stored in
       record {
         next = (dropping_refusal m.number bytes c).1;
         dropped_so = decides (refused None) refuses is
-            (ap (λ b. cond b unauthorized refuses)
+            (ap (λ b. cond b challenged_out refuses)
             (none_of (is_reliable c.requests.table.transport) m.asked.refusals.is_earlier
             (ap is_reliable transport) first));
         asked = refusing (code_in bytes) m.asked;
         there = ap (λ (r : All). datum_of m.number r) same
             ∙ replaced_there m.number m.asked (refusing (code_in bytes) m.asked) c.requests stored;
-        recent = refl;
+        recent = λ sent. or_right m.asked.refusals.is_recent m.asked.refusals.is_sent sent;
+        unsent = λ off. or_off m.asked.refusals.is_recent m.asked.refusals.is_sent off;
         message = refl;
         timers = ap (λ (r : All). r.table.requests) same
             ∙ changed_timers m.number (refusing (code_in bytes) m.asked) c.requests;
@@ -204,10 +244,10 @@ module _ (memory : Memory) (from : SocketAddr) (bytes : List ℕ) (now : ℕ) (c
 
   pub second_ends : response_verdict c bytes m ≡ refused None
       → (c.requests.table.transport ≡ Tcp) ⊎ (m.asked.refusals.is_earlier ≡ true)
-      → IsGivenUp memory from bytes now m.number c
+      → IsGivenUp memory from bytes now m.number (end_of_refusal bytes) c
   second_ends is which =
-      is_given_up (decides (refused None) unauthorized is
-      (ap (λ b. cond b unauthorized refuses) (last which)))
+      is_given_up (end_of_refusal bytes) (ends_so None is) (decides (refused None) challenged_out is
+      (ap (λ b. cond b challenged_out refuses) (last which)))
     where
       last : (c.requests.table.transport ≡ Tcp) ⊎ (m.asked.refusals.is_earlier ≡ true)
           → (is_reliable c.requests.table.transport || m.asked.refusals.is_earlier) ≡ true
@@ -219,28 +259,39 @@ module _ (memory : Memory) (from : SocketAddr) (bytes : List ℕ) (now : ℕ) (c
 
   pub third_ends : (x : Answered) → response_verdict c bytes m ≡ refused (Some x)
       → now ≤ m.asked.until → OTHERS ≤ m.asked.refusals.others
-      → IsGivenUp memory from bytes now m.number c
+      → IsGivenUp memory from bytes now m.number how.Unauthorized c
   third_ends x is in_time many =
       let limits = (judge_for c m.asked).limits in
       let spent = is_spent limits m.asked || nat_le OTHERS m.asked.refusals.others in
-      is_given_up (decides (refused (Some x)) unauthorized is
+      is_given_up how.Unauthorized (ends_as_refused x is)
+      (decides (refused (Some x)) challenged_out is
       (ap (λ b. cond b (drops LateChallenge)
-      (cond spent unauthorized (turns_for Why.Refused x m.asked)))
+      (cond spent challenged_out (turns_for Why.Refused x m.asked)))
       (le-ltb m.asked.until now in_time)
-      ∙ ap (λ b. cond b unauthorized (turns_for Why.Refused x m.asked))
+      ∙ ap (λ b. cond b challenged_out (turns_for Why.Refused x m.asked))
       (or_right (is_spent limits m.asked) (nat_le OTHERS m.asked.refusals.others)
       (le-leb OTHERS m.asked.refusals.others many))))
 
 -- ---- over calls
 
--- of the request with this number a refusal counts, or it will once the request is sent again
-abbrev pub WasRefused : ℕ → ℕ → Request AskedSeen → Type 0
-WasRefused number id q =
-    q.number ≡ number
-    → (q.datum.refusals.is_earlier || q.datum.refusals.is_recent) ≡ true
+-- the current message of a request was replaced this often or more often. If it was not replaced
+-- more often, this holds of the refusals of the current message
+abbrev IsOfTurns : (Refusals → Type 0) → ℕ → AskedSeen → Type 0
+IsOfTurns P turns a = (turns ≤ a.turns) × (a.turns ≡ turns → P a.refusals)
 
-abbrev pub CountsRefusal : ℕ → ℕ → Request AskedSeen → Type 0
-CountsRefusal number id q = q.number ≡ number → q.datum.refusals.is_earlier ≡ true
+abbrev RefusesSoon : Refusals → Type 0
+RefusesSoon r = (r.is_earlier || r.is_recent) ≡ true
+
+abbrev RefusesNow : Refusals → Type 0
+RefusesNow r = r.is_earlier ≡ true
+
+-- unless another message became the current one, a refusal of the request with this number counts,
+-- or it will once the message is sent again
+abbrev pub WasRefused : ℕ → ℕ → ℕ → Request AskedSeen → Type 0
+WasRefused number turns id q = q.number ≡ number → IsOfTurns RefusesSoon turns q.datum
+
+abbrev pub CountsRefusal : ℕ → ℕ → ℕ → Request AskedSeen → Type 0
+CountsRefusal number turns id q = q.number ≡ number → IsOfTurns RefusesNow turns q.datum
 
 -- whatever stands, and whatever lapses
 abbrev pub any_standing : StandingSeen → Type 0
@@ -255,44 +306,65 @@ any_poll c says = ⊤
 pub not_new : (number other : ℕ) → number + 1 ≤ other → other ≡ number → ⊥
 not_new number other low same = absurd (omega (arith, low, same))
 
-module _ (identity : Identity) (number : ℕ) where
+counted_low : (turns n : ℕ) → turns ≤ n → turns < 4294967295 → turns ≤ min (n + 1) 4294967295
+counted_low turns n low few = omega (arith, low, few)
+
+counted_off : (turns n : ℕ) → turns ≤ n → turns < 4294967295 → min (n + 1) 4294967295 ≡ turns → ⊥
+counted_off turns n low few same = absurd (omega (arith, low, few, same))
+
+-- after a turn, nothing is said of the refusals
+turn_counts : (P : Refusals → Type 0) (turns : ℕ) (few : turns < 4294967295) (is_kept : Bool)
+    (former : ℕ) (t : TurnSeen) (a : AskedSeen) → IsOfTurns P turns a
+    → IsOfTurns P turns (turned is_kept former t a)
+turn_counts P turns few is_kept former t a its = (
+  counted_low turns a.turns its.0 few,
+  λ same. absurd (counted_off turns a.turns its.0 few same),
+)
+
+module _ (identity : Identity) (number turns : ℕ) (few : turns < 4294967295) where
   refused_changed : (other : ℕ) (change : Change) (a : AskedSeen)
-      → WasRefused number 0 (numbered other a)
-      → WasRefused number 0 (numbered other (changed change a))
-  refused_changed other (SentOut now) a its = λ same.
-      or_left (a.refusals.is_earlier || a.refusals.is_recent) false (its same)
+      → WasRefused number turns 0 (numbered other a)
+      → WasRefused number turns 0 (numbered other (changed change a))
+  refused_changed other (SentOut now) a its = λ named. (
+    (its named).0,
+    λ same. or_left (a.refusals.is_earlier || a.refusals.is_recent) false ((its named).1 same),
+  )
   refused_changed other (Noted why code) a its = its
-  refused_changed other (Refused code) a its = λ same. or_right a.refusals.is_earlier true refl
+  refused_changed other (Refused code) a its = λ named. (
+    (its named).0,
+    λ same. or_more a.refusals.is_earlier a.refusals.is_recent a.refusals.is_sent
+        ((its named).1 same),
+  )
 
   counts_changed : (other : ℕ) (change : Change) (a : AskedSeen)
-      → CountsRefusal number 0 (numbered other a)
-      → CountsRefusal number 0 (numbered other (changed change a))
-  counts_changed other (SentOut now) a its = λ same.
-      or_left a.refusals.is_earlier a.refusals.is_recent (its same)
+      → CountsRefusal number turns 0 (numbered other a)
+      → CountsRefusal number turns 0 (numbered other (changed change a))
+  counts_changed other (SentOut now) a its = λ named. (
+    (its named).0,
+    λ same. or_left a.refusals.is_earlier a.refusals.is_recent ((its named).1 same),
+  )
   counts_changed other (Noted why code) a its = its
   counts_changed other (Refused code) a its = its
 
-  refused_rules : AreRules identity (number + 1) any_standing (WasRefused number) any_lapse
+  refused_rules : AreRules identity (number + 1) any_standing (WasRefused number turns) any_lapse
   refused_rules = record {
     starts = λ s id other method until body options low any. λ same.
         absurd (not_new number other low same);
     changes = λ id other change a its. refused_changed other change a its;
     turns_so = λ j now id new other former a bytes place t is_kept signed same any its is.
-        λ its_number.
-        or_left (a.refusals.is_earlier || a.refusals.is_recent) false (its its_number);
+        λ its_number. turn_counts RefusesSoon turns few is_kept former t a (its its_number);
     answers = λ j now id other a bytes place why d signed same any its is. tt;
     succeeds = λ s id other a o any its signed. tt;
     lapses = λ s a so any. tt;
   }
 
-  counts_rules : AreRules identity (number + 1) any_standing (CountsRefusal number) any_lapse
+  counts_rules : AreRules identity (number + 1) any_standing (CountsRefusal number turns) any_lapse
   counts_rules = record {
     starts = λ s id other method until body options low any. λ same.
         absurd (not_new number other low same);
     changes = λ id other change a its. counts_changed other change a its;
     turns_so = λ j now id new other former a bytes place t is_kept signed same any its is.
-        λ its_number.
-        or_left a.refusals.is_earlier a.refusals.is_recent (its its_number);
+        λ its_number. turn_counts RefusesNow turns few is_kept former t a (its its_number);
     answers = λ j now id other a bytes place why d signed same any its is. tt;
     succeeds = λ s id other a o any its signed. tt;
     lapses = λ s a so any. tt;
@@ -321,13 +393,13 @@ number_is : (x y : ℕ) → ◌≡◌ {A = Told} (transmit x) (transmit y) → x
 number_is x y e = cc
 
 -- once the bytes of a request are handed out, its refusal counts
-module _ (now number : ℕ) (c after : Client) (b : AskedSeen) (one : IsOne c.requests)
-    (each : Each (WasRefused number) c.requests.table.attached)
+module _ (now number turns : ℕ) (c after : Client) (b : AskedSeen) (one : IsOne c.requests)
+    (each : Each (WasRefused number turns) c.requests.table.attached)
     (some : datum_of number after.requests ≡ Some b) where
   handed_counts : (n : ℕ) (r : All) → polled now c.requests ≡ (Of.Transmit n, r)
       → (o : Option AskedSeen) → datum_of n r ≡ o
       → handed_out_of now n (with_requests r c) o ≡ (transmit number, after)
-      → b.refusals.is_earlier ≡ true
+      → IsOfTurns RefusesNow turns b
   handed_counts n r same None none said =
       let named : n ≡ number = number_is n number (ap (λ (p : Poll). p.0) said) in
       let left : r ≡ after.requests = ap (λ (p : Poll). p.1.requests) said in
@@ -343,15 +415,15 @@ module _ (now number : ℕ) (c after : Client) (b : AskedSeen) (one : IsOne c.re
           subst (λ (x : PollOf AskedSeen EndSeen). IsOne x.1) same
           (named_is_one now n c.requests one (ap (λ (x : PollOf AskedSeen EndSeen). x.0) same))
 
-      each_left : Each (WasRefused number) r.table.attached
+      each_left : Each (WasRefused number turns) r.table.attached
       each_left =
-          subst (λ (x : PollOf AskedSeen EndSeen). Each (WasRefused number) x.1.table.attached) same
-          (polls_each (WasRefused number) c.requests each one.in_order now)
+          subst (λ (x : PollOf AskedSeen EndSeen). Each (WasRefused number turns) x.1.table.attached) same
+          (polls_each (WasRefused number turns) c.requests each one.in_order now)
 
       by : (late : Bool)
           → cond late (given_up_at n a (with_requests r c)) (sent_by now n (with_requests r c))
           ≡ (transmit number, after)
-          → b.refusals.is_earlier ≡ true
+          → IsOfTurns RefusesNow turns b
       by true said = let no = ap (λ (p : Poll). p.0) said in cc
       by false said =
           let named : n ≡ number = number_is n number (ap (λ (p : Poll). p.0) said) in
@@ -362,26 +434,27 @@ module _ (now number : ℕ) (c after : Client) (b : AskedSeen) (one : IsOne c.re
           ∙ ap (λ k. datum_of k after.requests) named ∙ some in
           let sent : sent_out now a ≡ b = replaced_is n (sent_out now a) b r stored in
           let t = is_there n a r still there in
-          ap (λ (x : AskedSeen). x.refusals.is_earlier) (sym sent)
-          ∙ each_left t.id (numbered n a) t.there named
+          subst (λ (x : AskedSeen). IsOfTurns RefusesNow turns x) sent
+          (each_left t.id (numbered n a) t.there named)
 
-  sent_counts : told now c ≡ (transmit number, after) → b.refusals.is_earlier ≡ true
+  sent_counts : told now c ≡ (transmit number, after) → IsOfTurns RefusesNow turns b
   sent_counts = by (polled now c.requests) refl
     where
       by : (p : PollOf AskedSeen EndSeen) → polled now c.requests ≡ p
           → by_polled now (with_requests p.1 c) p.0 ≡ (transmit number, after)
-          → b.refusals.is_earlier ≡ true
+          → IsOfTurns RefusesNow turns b
       by (Of.Transmit n, r) same said = handed_counts n r same (datum_of n r) refl said
       by (Of.Ended n end, r) same said = let no = ap (λ (p : Poll). p.0) said in cc
       by (Of.TimedOut n a, r) same said = let no = ap (λ (p : Poll). p.0) said in cc
       by (Of.Wait until, r) same said = let no = ap (λ (p : Poll). p.0) said in cc
 
-module _ (stays : StaysAClient) (identity : Identity) (form : Form) (number : ℕ) where
+module _ (stays : StaysAClient) (identity : Identity) (form : Form) (number turns : ℕ)
+    (few : turns < 4294967295) where
   abbrev Remembers : Client → Type 0
-  Remembers c = AreHeld identity form (number + 1) any_standing (WasRefused number) c
+  Remembers c = AreHeld identity form (number + 1) any_standing (WasRefused number turns) c
 
   abbrev Counts : Client → Type 0
-  Counts c = AreHeld identity form (number + 1) any_standing (CountsRefusal number) c
+  Counts c = AreHeld identity form (number + 1) any_standing (CountsRefusal number turns) c
 
   next_client : (c : Client) (event : Event) (next : Client) → IsClient c → Call c event next
       → IsClient next
@@ -391,21 +464,21 @@ module _ (stays : StaysAClient) (identity : Identity) (form : Form) (number : �
   remembers_next : (c : Client) (event : Event) (after : Client) → IsClient c → Call c event after
       → Remembers c → Remembers after
   remembers_next c event after is made held =
-      call_held identity form (number + 1) any_standing (WasRefused number) any_lapse
-      (refused_rules identity number) any_poll any_lets c event after is made
+      call_held identity form (number + 1) any_standing (WasRefused number turns) any_lapse
+      (refused_rules identity number turns few) any_poll any_lets c event after is made
       (no_fact c event after made) held
 
   -- once it counts it does so from then on
   counts_then : (c : Client) (events : List Event) (after : Client) → IsClient c
       → Calls c events after → Counts c → Counts after
   counts_then c events after is calls held =
-      calls_held identity form (number + 1) any_standing (CountsRefusal number) any_lapse
-      (counts_rules identity number) any_poll any_lets stays c events after is calls
+      calls_held identity form (number + 1) any_standing (CountsRefusal number turns) any_lapse
+      (counts_rules identity number turns few) any_poll any_lets stays c events after is calls
       (no_facts c events after calls) held
 
   -- each request with the number has what is stored of it
   counts_by : (c : Client) → IsClient c → Remembers c
-      → ((b : AskedSeen) → datum_of number c.requests ≡ Some b → b.refusals.is_earlier ≡ true)
+      → ((b : AskedSeen) → datum_of number c.requests ≡ Some b → IsOfTurns RefusesNow turns b)
       → Counts c
   counts_by c is held each = record {
     identity_is = held.identity_is;
@@ -434,7 +507,7 @@ module _ (stays : StaysAClient) (identity : Identity) (form : Form) (number : �
           let after_is = next_client c (says_so (transmit other)) after is made in
           counts_by after after_is
           (remembers_next c (says_so (transmit other)) after is made held)
-          (λ b some. sent_counts now number c after b is.requests.one held.asked some
+          (λ b some. sent_counts now number turns c after b is.requests.one held.asked some
           (said ∙ ap (λ k. (transmit k, after)) same))
       by (ends other end) said sent = cc
       by (waits until) said sent = cc
@@ -478,11 +551,12 @@ low_number n a r one some = by (nat_le r.next n) refl
 
 remembered : StaysAClient → (c later : Client) (events : List Event) (number : ℕ)
     (a b : AskedSeen) → IsClient c → datum_of number c.requests ≡ Some a
-    → a.refusals.is_recent ≡ true → Calls c events later → is_sent_in number events ≡ true
-    → datum_of number later.requests ≡ Some b → b.refusals.is_earlier ≡ true
-remembered stays c later events number a b is there recent calls sent then_there =
+    → a.refusals.is_recent ≡ true → a.turns < 4294967295 → Calls c events later
+    → is_sent_in number events ≡ true → datum_of number later.requests ≡ Some b
+    → IsOfTurns RefusesNow a.turns b
+remembered stays c later events number a b is there recent few calls sent then_there =
     let later_is = stays c later events is calls in
-    let held : AreHeld c.identity c.form (number + 1) any_standing (WasRefused number) c = record {
+    let held : AreHeld c.identity c.form (number + 1) any_standing (WasRefused number a.turns) c = record {
       identity_is = refl;
       form_is = refl;
       next_is = low_number number a c.requests is.requests.one there;
@@ -492,10 +566,10 @@ remembered stays c later events number a b is there recent calls sent then_there
           subst (λ k. datum_of k c.requests ≡ Some q.datum) same
           (stored_one id q c.requests is.requests.one stored).1 in
           let its : a ≡ q.datum = some_is a q.datum (sym there ∙ other) in
-          or_right q.datum.refusals.is_earlier q.datum.refusals.is_recent
-          (ap (λ (x : AskedSeen). x.refusals.is_recent) (sym its) ∙ recent);
+          subst (λ (x : AskedSeen). IsOfTurns RefusesSoon a.turns x) its
+          (omega arith, λ same. or_right a.refusals.is_earlier a.refusals.is_recent recent);
     } in
-    let counts = walk stays c.identity c.form number c events later is calls held sent in
+    let counts = walk stays c.identity c.form number a.turns few c events later is calls held sent in
     let t = is_there number b later.requests later_is.requests.one then_there in
     counts.asked t.id (numbered number b) t.there refl
 
@@ -503,14 +577,15 @@ pub given_up_then : StaysAClient → (c later : Client) (events : List Event) (n
     (a : AskedSeen) (memory : Memory) (from : SocketAddr) (bytes : List ℕ) (now : ℕ) (m : Met)
     → IsClient c → datum_of number c.requests ≡ Some a → a.refusals.is_recent ≡ true
     → Calls c events later → is_sent_in number events ≡ true
-    → message_answered later from bytes ≡ Some m → m.number ≡ number
-    → response_verdict later bytes m ≡ refused None
-    → IsGivenUp memory from bytes now number later
+    → message_answered later from bytes ≡ Some m → m.number ≡ number → m.asked.turns ≡ a.turns
+    → a.turns < 4294967295 → response_verdict later bytes m ≡ refused None
+    → IsGivenUp memory from bytes now number (end_of_refusal bytes) later
 given_up_then stays c later events number a memory from bytes now m is there recent calls sent hears
-    named verdict =
+    named same few verdict =
     let stored : datum_of number later.requests ≡ Some m.asked =
     subst (λ k. datum_of k later.requests ≡ Some m.asked) named
     (heard_met from bytes later m hears).stored in
-    subst (λ k. IsGivenUp memory from bytes now k later) named
+    let its = remembered stays c later events number a m.asked is there recent few calls sent stored in
+    subst (λ k. IsGivenUp memory from bytes now k (end_of_refusal bytes) later) named
     (second_ends memory from bytes now later m hears verdict
-    (inr (remembered stays c later events number a m.asked is there recent calls sent stored)))
+    (inr (its.1 same)))

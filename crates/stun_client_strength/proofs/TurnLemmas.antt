@@ -14,7 +14,7 @@ use Rattle.stun_client_endpoint.specs.declared.ended.DropReason.TheVariants.{Not
 use Rattle.stun_client_calls.specs.Deciding.{Place, back_to, decided, drops}
 use Rattle.stun_client_calls.specs.Deciding.{giving_way, is_idle, is_spent, place_of}
 use Rattle.stun_client_calls.specs.Messages.{is_late}
-use Rattle.stun_client_calls.specs.Deciding.{refuses, turns, unauthorized, undoubted}
+use Rattle.stun_client_calls.specs.Deciding.{refuses, turns, challenged_out, undoubted}
 use Rattle.stun_client_calls.specs.Messages.{AskedSeen, SentSeen, eligible, has_unsigned, is_doubt}
 use Rattle.stun_client_calls.specs.Messages.{is_eligible, is_signed_eligible, message_for}
 use Rattle.stun_client_calls.specs.Messages.{signed_eligible}
@@ -33,14 +33,14 @@ pub data IsTurn (a : AskedSeen) (v : Verdict) (why : Why) (c : Option Answered) 
 -- for a challenge
 for_challenge : (late spent : Bool) (w why : Why) (p place : Option Place) (x : Answered)
     (c : Option Answered)
-    → cond late (drops LateChallenge) (cond spent unauthorized (turns w p (Some x)))
+    → cond late (drops LateChallenge) (cond spent challenged_out (turns w p (Some x)))
     ≡ turns why place c → c ≡ Some x
 for_challenge true spent w why p place x c is = cc
 for_challenge false true w why p place x c is = cc
 for_challenge false false w why p place x c is = cc
 
 no_turn : (b : Bool) (why : Why) (place : Option Place) (c : Option Answered)
-    → cond b unauthorized refuses ≡ turns why place c → ⊥
+    → cond b challenged_out refuses ≡ turns why place c → ⊥
 no_turn true why place c is = cc
 no_turn false why place c is = cc
 

@@ -13,7 +13,7 @@ use Rattle.stun_client.specs.declared.judged.Distrust.TheVariants.{NotVerified}
 use Rattle.stun_client_endpoint.specs.Bodies.{Body}
 use Rattle.stun_client_calls.specs.Clients.{changed}
 use Rattle.stun_client_calls.specs.Deciding.{DecisionSeen, Place, answered, decided, drops, refuses}
-use Rattle.stun_client_calls.specs.Deciding.{turns, unauthorized}
+use Rattle.stun_client_calls.specs.Deciding.{turns, challenged_out}
 use Rattle.stun_client_calls.specs.Laws.{IsAnswerOrDrop, Judge, decision_on}
 use Rattle.stun_client_calls.specs.Messages.{AllSent, AskedSeen, SentSeen, TurnSeen, challenge_for}
 use Rattle.stun_client_calls.specs.Messages.{message_for, new_asked, stepped_back, turned}
@@ -99,7 +99,7 @@ unsigned_answers_or_drops j is_current now a before bytes is =
 pub no_turn_of_answer : (d : DecisionSeen) (why : Why) (place : Option Place) (c : Option Answered)
     → IsAnswerOrDrop d → d ≡ turns why place c → ⊥
 no_turn_of_answer (answered by) why place c so is = cc
-no_turn_of_answer unauthorized why place c so is = cc
+no_turn_of_answer challenged_out why place c so is = cc
 no_turn_of_answer (turns w p x) why place c so is = absurd so
 no_turn_of_answer refuses why place c so is = cc
 no_turn_of_answer (drops w) why place c so is = cc

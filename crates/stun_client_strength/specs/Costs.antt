@@ -40,10 +40,10 @@ pub data IsRefusedRun (number : ℕ) : Bool → Client → ℕ → Client → Ty
       → message_answered c from bytes ≡ Some m → m.number ≡ number → m.asked.signed_for ≡ None
       → response_verdict c bytes m ≡ anew x → received memory from bytes now c ≡ (Consumed, next)
       → IsRefusedRun number false next count after → IsRefusedRun number is_waiting c count after
-  -- a message is answered with the challenge that it is signed for
+  -- a signed message is answered with the challenge that it is signed for
   refused_by : (is_waiting : Bool) (c next after : Client) (memory : Memory) (from : SocketAddr)
       (bytes : List ℕ) (now count : ℕ) (m : Met) → now ≤ last_moment
-      → message_answered c from bytes ≡ Some m → m.number ≡ number
+      → message_answered c from bytes ≡ Some m → m.number ≡ number → IsSome m.asked.signed_for
       → response_verdict c bytes m ≡ refused None → (received memory from bytes now c).1 ≡ next
       → IsRefusedRun number false next count after → IsRefusedRun number is_waiting c count after
   -- calls between, which do not change the request

@@ -113,6 +113,7 @@ IsNotConfirmed c number =
 abbrev pub IsNoTimeout : Client → ℕ → RequestEnd → Type 0
 IsNoTimeout c number (how.Answered outcome signed_by) = ⊤
 IsNoTimeout c number how.Unauthorized = ⊤
+IsNoTimeout c number how.TooManyChallenges = ⊤
 IsNoTimeout c number (how.TimedOut drops) = IsNotConfirmed c number
 IsNoTimeout c number how.Cancelled = ⊤
 

@@ -13,17 +13,19 @@ ghost use Rattle.stun_client_strength.specs.Unsigned.{UnsignedRequestsStayUnsign
 /// name any address as the source of its responses.
 ///
 /// - If a response repeats the challenge that the current message is signed for, the client drops
-///   the response as `Refused` the first time, and retransmits the request by its timer. If such a
-///   response arrives again after the request was sent once more, it ends the request as
-///   `Unauthorized`. Over a reliable transport, the first such response already ends the request
-///   (`second`).
-/// - The client remembers the first refusal, whatever calls are made in between (`remembered`). So
-///   a client with a wrong password sends the signed message twice over UDP, and once over a
-///   reliable transport, if the server answers each datagram in time.
+///   the response as `Refused` the first time, and retransmits the message by its timer. If such a
+///   response arrives again after the message was sent once more, it ends the request: as
+///   `Unauthorized` if it is a 401, and as `TooManyChallenges` if it is a 438. Over a reliable
+///   transport, the first such response already ends the request. A response that arrives before
+///   the message was sent since it became the current one does not count (`second`).
+/// - The client remembers the first refusal, whatever calls are made in between, until another
+///   message of the request becomes the current one (`remembered`). So a client with a wrong
+///   password sends the signed message twice over UDP, and once over a reliable transport, if the
+///   server answers each datagram in time.
 /// - A 401 with the same realm and security bits, but another nonce or list of algorithms, ends the
 ///   request if two conditions hold: two such 401s have already caused the client to send the
-///   request again as another message, and the third arrives within the first plan of the request
-///   (`third`).
+///   request again as another message, and the third arrives within the first plan of the request.
+///   The request then ends as `Unauthorized` (`third`).
 ///
 /// Law `refusals_ask_for_the_same_credentials` of `stun_exchanges` states which challenges count as
 /// refusals. A response to a request that is not signed never counts as a refusal

@@ -61,23 +61,37 @@ use core::net::SocketAddr;
 ///   that is not the current one are dropped.
 /// - A challenge is answered with the message that is signed for it. If there is no such message
 ///   yet, it is written. A challenge is dropped if it is weaker than a challenge that a success has
-///   confirmed. If the challenge that the message is signed for arrives once more, it is a refusal:
-///   the first refusal is dropped, and a refusal that arrives after the message was retransmitted
+///   confirmed: if it asks for HMAC-SHA1 in place of HMAC-SHA256, or for the user name in place of
+///   its hash. So of a challenge for HMAC-SHA256 with the name and a challenge for HMAC-SHA1 with
+///   the hash, each is weaker than the other. If a signed 438 has no list of algorithms, or a
+///   malformed one, the client uses the list of the challenge before.
+/// - If the challenge that the current message is signed for arrives once more, it is a refusal.
+///   The first refusal is dropped, and a refusal that arrives after the message was retransmitted
 ///   ends the request. (Over a stream no message is retransmitted, so the first refusal ends the
-///   request.)
+///   request.) When another message becomes the current one, refusals of the former message no
+///   longer count.
 /// - Servers do not sign the errors 400, 437 and 441 with which they refuse a message that is
 ///   signed for a forged challenge. So such an error without a signature does not end the request.
-///   Instead, the client makes another message of the request the current one, at most three times.
+///   Instead, the client makes another message of the request the current one, at most three times:
+///   of the messages that are neither in doubt nor signed for a weaker challenge, the one that was
+///   written last. The next requests are then signed for its challenge, so an unsigned 437, which
+///   anybody can send, can change that challenge.
 /// - After the current message has been replaced six times
 ///   ([`challenges`](ClientBuilder::challenges)), the next challenge ends the request. The third
 ///   401 that has the same realm, but a new nonce, ends it too.
+/// - After the first plan of a request, the client answers no challenge to it, but a challenge that
+///   arrives exactly at the end of this plan is still answered. A request that is not polled within
+///   its first plan ends without being sent.
 ///
 /// So over UDP a single forged datagram ends no request, unless the server itself has brought the
 /// request to one of these limits, or you accept unsigned responses
 /// ([`accept_unsigned`](ClientBuilder::accept_unsigned)). An attacker who sends several forged
-/// datagrams can end a request with
-/// [`RequestError::Unauthorized`](super::RequestError::Unauthorized), and an attacker who keeps the
-/// server's answers from arriving can make the request time out.
+/// datagrams can end a request, for example with three 401s that have the true realm and new
+/// nonces, and an attacker who keeps the server's answers from arriving can make the request time
+/// out. A request that a challenge ends fails with
+/// [`RequestError::Unauthorized`](super::RequestError::Unauthorized) if the challenge is a 401 that
+/// answers a signed message, and otherwise with
+/// [`RequestError::TooManyChallenges`](super::RequestError::TooManyChallenges).
 ///
 /// The client chooses the algorithm from the list of the challenge that it answers. Only if the
 /// challenge is a 438 that is signed and has no list does it use the list of the challenge before.

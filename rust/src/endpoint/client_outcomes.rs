@@ -353,9 +353,13 @@ pub enum RequestError {
     /// for example after a wrong short-term password (see
     /// [`Credentials::short_term`](super::Credentials::short_term)).
     TimedOut(Drops),
-    /// The server refuses the credentials, or challenges too often: the user name or the password
-    /// is wrong, or an attacker forges challenges.
+    /// A 401 refused a signed message of the request: the user name or the password is wrong, or an
+    /// attacker forges challenges.
     Unauthorized,
+    /// The request was challenged too often, and the last challenge was not a 401 to a signed
+    /// message, so the password need not be wrong: servers with different nonces may have one
+    /// address, or an attacker forges challenges. Start the request again later.
+    TooManyChallenges,
     /// The response has an attribute of this type, which must be understood but is not.
     NotUnderstood(AttributeType),
     /// The response is an error without a well-formed ERROR-CODE.
@@ -425,9 +429,8 @@ impl fmt::Display for RequestError {
             },
             RequestError::TimedOut(drops) if drops.count == 0 => f.write_str("no answer in time"),
             RequestError::TimedOut(drops) => write!(f, "no answer in time; {drops}"),
-            RequestError::Unauthorized => {
-                f.write_str("the server refuses the credentials, or challenges too often")
-            },
+            RequestError::Unauthorized => f.write_str("the server refuses the credentials"),
+            RequestError::TooManyChallenges => f.write_str("the server challenges too often"),
             RequestError::NotUnderstood(kind) => {
                 write!(
                     f,
@@ -469,6 +472,7 @@ pub(super) fn result_of(ended: End<Global>) -> Result<Response, RequestError> {
         ended::RequestEnd::Answered(outcome, signed_by) => (outcome, signed_by),
         ended::RequestEnd::TimedOut(drops) => return Err(RequestError::TimedOut(drops.into())),
         ended::RequestEnd::Unauthorized => return Err(RequestError::Unauthorized),
+        ended::RequestEnd::TooManyChallenges => return Err(RequestError::TooManyChallenges),
         ended::RequestEnd::Cancelled => return Err(RequestError::Cancelled),
     };
     let bytes = ended.response.into_std();

@@ -364,14 +364,16 @@ impl ClientBuilder {
     }
 
     /// Sets how often another message of a request may take the place of the current one: 6 times
-    /// by default. After that, the next challenge ends the request with
-    /// [`RequestError::Unauthorized`](super::RequestError::Unauthorized). A restart of the server,
-    /// a new address of the client, an expired nonce, a forged challenge, and an unsigned error
-    /// 400, 437 or 441 each count as one replacement.
+    /// by default. After that, the next challenge ends the request: with
+    /// [`RequestError::Unauthorized`](super::RequestError::Unauthorized) if the challenge is a 401
+    /// that answers a signed message, and otherwise with
+    /// [`RequestError::TooManyChallenges`](super::RequestError::TooManyChallenges). A restart of
+    /// the server, a new address of the client, an expired nonce, a forged challenge, and an
+    /// unsigned error 400, 437 or 441 each count as one replacement.
     ///
-    /// A wrong password ends a request earlier: when the server refuses the request for the second
-    /// time with the nonce for which the request is signed, or when it sends the third 401 that has
-    /// the same realm, but a new nonce.
+    /// A wrong password ends a request earlier: when the server refuses the current message for the
+    /// second time with the nonce for which this message is signed, or when it sends the third 401
+    /// that has the same realm, but a new nonce.
     pub fn challenges(mut self, most: u32) -> ClientBuilder {
         self.challenges = most;
         self

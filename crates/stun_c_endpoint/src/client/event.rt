@@ -197,6 +197,7 @@ impl Event {
                 self.dropped = Dropped::of(drops);
             }
             RequestEnd::Unauthorized => self.result = 5,
+            RequestEnd::TooManyChallenges => self.result = 9,
             RequestEnd::Cancelled => self.result = 8,
         }
     }

@@ -10,11 +10,11 @@ ghost use Rattle.stun_agent.specs.Transactions.{IsRequestOf};
 ghost use Rattle.stun_judging.specs.Additions.{UnlessMemory as UnlessRefused};
 ghost use Rattle.stun_base.specs.MessageType.{class_in};
 ghost use Rattle.stun_client_calls.specs.Clients.{with_requests};
-ghost use Rattle.stun_client_calls.specs.Deciding.{answered, unauthorized};
+ghost use Rattle.stun_client_calls.specs.Deciding.{answered, challenged_out};
 ghost use Rattle.stun_client_calls.specs.Messages.{AskedSeen};
 ghost use Rattle.stun_client_calls.specs.Options.{round_trip};
 ghost use Rattle.stun_client_calls.specs.Receiving.{Met, UnlessMemory, all_memory, answered_in};
-ghost use Rattle.stun_client_calls.specs.Receiving.{by_decision};
+ghost use Rattle.stun_client_calls.specs.Receiving.{by_decision, end_after};
 ghost use Rattle.stun_client_calls.specs.Receiving.{spot_of, turned_at, turned_to, unwritten};
 ghost use Rattle.stun_client_calls.specs.Writing.{message_bytes};
 ghost use Rattle.stun_client_calls.specs.code.Acting.{IsExchanged, confirmed_in, exchanging};
@@ -35,7 +35,9 @@ use stun_base::memory::Memory;
 use stun_client::challenge::Challenge;
 use stun_client::judged::Outcome;
 use stun_client_endpoint::ended::{DropReason, RequestEnd};
+use stun_client_endpoint::reading::code_of;
 use stun_client_endpoint::told::Received;
+use stun_types::attribute::ErrorCode;
 use stun_types::message::{
     IntegrityAlgorithm, Message, MessageClass, StunWriteError, TransactionId,
 };
@@ -140,8 +142,8 @@ impl<A: Memory> ClientEndpoint<A> {
         }
     }
 
-    /// Ends a request that was challenged or refused too often.
-    pub(crate) fn end_unauthorized(
+    /// Ends a request that was challenged or refused too often (see `choose_end`).
+    pub(crate) fn end_challenged(
         &mut self,
         number: u64,
         is_current: bool,
@@ -150,19 +152,35 @@ impl<A: Memory> ClientEndpoint<A> {
     ) -> Received<'static>
         ensures acted { (m : Met) → answered_in message.now self.old ≡ Some m → number ≡ m.number
             → is_current ≡ m.is_current
-            → UnlessMemory (λ memory. by_decision memory self.old now message.now m unauthorized)
+            → UnlessMemory (λ memory. by_decision memory self.old now message.now m challenged_out)
             message.now (Some m) self.old (result, self.new) }
         ensures granted { A.grants → (m : Met) → answered_in message.now self.old ≡ Some m
             → number ≡ m.number → is_current ≡ m.is_current
             → (result, self.new)
-            ≡ by_decision all_memory self.old now message.now m unauthorized }
+            ≡ by_decision all_memory self.old now message.now m challenged_out }
     {
-        let end = End::bare(self.alloc, RequestEnd::Unauthorized);
+        let end = End::bare(self.alloc, self.choose_end(number, message));
         let Some(asked) = self.end_by(number, is_current, end, message, now) else {
             return Received::NotOurs;
         };
         asked.forget(&mut self.earlier);
         Received::Consumed
+    }
+
+    /// Returns how a challenge ends a request: as `Unauthorized` if the challenge is a 401 and the
+    /// current message of the request is signed, and otherwise as `TooManyChallenges`.
+    fn choose_end(&self, number: u64, message: &Message<'_>) -> RequestEnd
+        ensures { (a : AskedSeen) → datum_of number self.now.requests ≡ Some a
+            → result ≡ end_after a.signed_for message.now }
+    {
+        let Some(asked) = self.requests.datum_of(number) else {
+            return RequestEnd::TooManyChallenges;
+        };
+        if asked.signed_for().is_some() && code_of(message) == Some(ErrorCode::UNAUTHORIZED) {
+            RequestEnd::Unauthorized
+        } else {
+            RequestEnd::TooManyChallenges
+        }
     }
 
     /// Ends a request with the outcome `end`, and returns its state. Returns `None` if no

@@ -68,9 +68,9 @@ impl<A: Memory> ClientEndpoint<A> {
     /// `Credentials::judge`), and comes from the address that answers the request. This is the
     /// server's address, unless the options of the request name another one (see
     /// `RequestOptions::from`). Otherwise `deciding::decide` decides: the request ends as
-    /// `Unauthorized`, another message becomes the current one, or the response is dropped. A
-    /// response from any other address is `NotOurs`, and so is an indication that does not come
-    /// from the server.
+    /// `Unauthorized` or as `TooManyChallenges`, another message becomes the current one, or the
+    /// response is dropped. A response from any other address is `NotOurs`, and so is an indication
+    /// that does not come from the server.
     ///
     /// If an allocation fails, or no transaction ID is left, the response is dropped as
     /// `OutOfMemory`. There is one exception: if another message becomes the current one, and there
@@ -306,7 +306,7 @@ impl<A: Memory> ClientEndpoint<A> {
     {
         match decision {
             Decision::Answered(by) => self.end_answered(number, is_current, by, message, now),
-            Decision::Unauthorized => self.end_unauthorized(number, is_current, message, now),
+            Decision::ChallengedOut => self.end_challenged(number, is_current, message, now),
             Decision::Turn(why, place, signed_for) => {
                 self.turn(number, why, place, signed_for, message, now)
             }

@@ -35,7 +35,8 @@ use stun_types::message::{Method, StunWriteError, TransactionId};
 
 impl<A: Memory> ClientEndpoint<A> {
     /// Starts a request, and returns its number. `poll` then returns `Transmit` with this number:
-    /// send the bytes that `bytes_of` returns for it.
+    /// send the bytes that `bytes_of` returns for it. If `poll` is not called before the first plan
+    /// of the request is over, the request ends without having been sent.
     ///
     /// # Errors
     ///

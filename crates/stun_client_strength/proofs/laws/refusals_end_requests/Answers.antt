@@ -11,9 +11,9 @@ returns-clause-second g = λ memory from bytes now c m hears is. (
 
 pub returns-clause-remembered : goal.returns-clause-remembered
 returns-clause-remembered g = λ c later events number a memory from bytes now m is there recent
-    calls sent hears named verdict.
+    calls sent hears named same few verdict.
     given_up_then g.clients_stay_in_order.ensures.stays c later events number a memory from bytes
-    now m is there recent calls sent hears named verdict
+    now m is there recent calls sent hears named same few verdict
 
 pub returns-clause-third : goal.returns-clause-third
 returns-clause-third g = λ memory from bytes now c m x hears is in_time many.

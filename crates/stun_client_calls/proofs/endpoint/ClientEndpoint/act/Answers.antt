@@ -1,6 +1,6 @@
 -- Each decision is acted upon by a function of its own.
 use Rattle.std.proofs.Common.{ap}
-use Rattle.stun_client_calls.specs.Deciding.{answered, decision_of, turns, unauthorized}
+use Rattle.stun_client_calls.specs.Deciding.{answered, decision_of, turns, challenged_out}
 use Rattle.stun_client_calls.specs.Receiving.{all_memory}
 use Rattle.stun_client_calls.proofs.GrantedLemmas.{decided_so_as, dropped_as, refused_as}
 use Rattle.stun_client_calls.proofs.ReceivingLemmas.{decided_as, dropped_so, refused_so}
@@ -13,12 +13,12 @@ returns-in-Answered-clause-acted g c =
     (answered c.in-Answered.by) _ (ap decision_of c.in-Answered.is)
     (c.end_answered.ensures.acted m found same current)
 
-pub returns-in-Unauthorized-clause-acted : goal.returns-in-Unauthorized-clause-acted
-returns-in-Unauthorized-clause-acted g c =
+pub returns-in-ChallengedOut-clause-acted : goal.returns-in-ChallengedOut-clause-acted
+returns-in-ChallengedOut-clause-acted g c =
     λ m found same current.
     decided_as c.args.message.now c.args.self.now c.args.now m (decision_of c.args.decision)
-    unauthorized _ (ap decision_of c.in-Unauthorized.is)
-    (c.end_unauthorized.ensures.acted m found same current)
+    challenged_out _ (ap decision_of c.in-ChallengedOut.is)
+    (c.end_challenged.ensures.acted m found same current)
 
 pub returns-in-Turn-clause-acted : goal.returns-in-Turn-clause-acted
 returns-in-Turn-clause-acted g c =
@@ -46,12 +46,12 @@ returns-in-Answered-clause-granted g c =
     (decision_of c.args.decision) (answered c.in-Answered.by) _ (ap decision_of c.in-Answered.is)
     (c.end_answered.ensures.granted grants m found same current)
 
-pub returns-in-Unauthorized-clause-granted : goal.returns-in-Unauthorized-clause-granted
-returns-in-Unauthorized-clause-granted g c =
+pub returns-in-ChallengedOut-clause-granted : goal.returns-in-ChallengedOut-clause-granted
+returns-in-ChallengedOut-clause-granted g c =
     λ grants m found same current.
     decided_so_as all_memory c.args.message.now c.args.self.now c.args.now m
-    (decision_of c.args.decision) unauthorized _ (ap decision_of c.in-Unauthorized.is)
-    (c.end_unauthorized.ensures.granted grants m found same current)
+    (decision_of c.args.decision) challenged_out _ (ap decision_of c.in-ChallengedOut.is)
+    (c.end_challenged.ensures.granted grants m found same current)
 
 pub returns-in-Turn-clause-granted : goal.returns-in-Turn-clause-granted
 returns-in-Turn-clause-granted g c =

@@ -1,6 +1,6 @@
 #!/usr/bin/env python3
-"""Counts and times the same work in this library and in others, for the first table and for the
-section Peers of README.md.
+"""Counts and times the same work in this library and in others, for the first two tables of
+README.md.
 
     bench/peers.py [--time]     after `make lib`
 
@@ -109,9 +109,9 @@ def others():
     return found
 
 
-def print_table(columns):
+def print_table(what, columns):
     rows = list(dict.fromkeys(row for column in columns.values() for row in column))
-    print("| | " + " | ".join(columns) + " |")
+    print("| %s | " % what + " | ".join(columns) + " |")
     print("|---" * (len(columns) + 1) + "|")
     for row in rows:
         print("| %s | " % row + " | ".join(
@@ -125,9 +125,10 @@ def main():
     with tempfile.TemporaryDirectory() as scratch:
         programs = built(scratch)
         if sys.argv[1:]:
-            print_table({**timed(programs), **others()})
+            print_table("Nanoseconds", {**timed(programs), **others()})
         else:
-            print_table({name: counted(program) for name, program in programs.items()})
+            print_table("Instructions",
+                        {name: counted(program) for name, program in programs.items()})
 
 
 if __name__ == "__main__":

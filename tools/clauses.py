@@ -16,7 +16,7 @@ import shown
 from export_text import closing, mask
 
 PAGE = crates.TOP / "docs/CLAUSES.md"
-# The order of the sections of docs/PROVED.md. The programs, which follow, are in one section there.
+# The order of the crates on the page. The programs follow.
 FIRST = ("stun_endpoint", "stun_client_calls", "stun_client_endpoint", "stun_ice", "stun_datagrams",
          "stun_client_runs", "stun_client_meetings", "stun_client_strength", "stun_client_plans",
          "stun_requests", "stun_exchanges", "stun_sessions", "stun_peers", "stun_peer_runs",
@@ -28,8 +28,8 @@ HEAD = """\
 
 `tools/clauses.py` writes this page from the sources, and the gate compares them. In brackets stand
 the names of the clauses of a contract (`ensures NAME { .. }`). A number counts clauses without a
-name, and *premise* says that a caller has to meet something (`requires`). [PROVED.md](PROVED.md)
-says what they mean, what they rest on and what no clause states.
+name, and *premise* says that a caller has to meet something (`requires`). The comment above a call
+says what they mean, and [PROVED.md](PROVED.md) what they rest on and what no clause states.
 """
 CLAUSE = re.compile(r"\b(ensures|requires)\*?(?:\s+(\w+))?\s*\{")
 HOLDER = re.compile(r"(?m)^(?:unsafe )?(?:(pub )?trait|impl)\b(?:<[^{]*?>)? ?([^{]*)\{")

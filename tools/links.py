@@ -1,5 +1,6 @@
 #!/usr/bin/env python3
-"""Checks the links of all pages. Run at the top of the repository.
+"""Checks the links of all pages, how long the pages are, and that docs/TOUR.md quotes README.md.
+Run at the top of the repository.
 
 A relative link must lead to a file or folder of the repository, its anchor to a heading of that
 page or to a line that the file has. A page that a file names, as `docs/SERVER.md`, must be there.
@@ -7,12 +8,14 @@ Prints each that is not, with its file and line, and fails then.
 """
 
 import os
+import pathlib
 import re
 import subprocess
 import sys
 
 LINK = re.compile(r"\[[^\]\n]*(?:\n[^\]\n]*)?\]\(([^)\s]+)\)")
 BLOCK = re.compile(r"(?ms)^```.*?^```")
+MOST_WORDS = {"README.md": 1400, "docs/PROVED.md": 6000, "all pages": 76000}
 NAMED = re.compile(r"(?<![\w/.-])((?:docs|rust|bench|examples)/[\w/]*\.md)\b")
 
 
@@ -47,11 +50,35 @@ def reason(page, target):
     return None if anchor in anchors(text) else "has no such heading"
 
 
+def long_pages(files):
+    """The pages with more words than they may have. Those of rustdoc do not count."""
+    words = {file: len(pathlib.Path(file).read_text().split()) for file in files
+             if file.endswith(".md") and not file.startswith(("rust/pages/", "rust/src/"))}
+    words["all pages"] = sum(words.values())
+    return ["%s: %d words, at most %d: tell less, or link" % (page, words[page], most)
+            for page, most in MOST_WORDS.items() if words[page] > most]
+
+
+def plain(text):
+    """A text without links, the marks of a quotation, and line breaks."""
+    return " ".join(re.sub(r"\[([^\]]*)\]\([^)]*\)|(?m:^> )", r"\1", text).split())
+
+
+def misquoted():
+    """The quotations in docs/TOUR.md that README.md does not have."""
+    readme, tour = (pathlib.Path(page).read_text() for page in ("README.md", "docs/TOUR.md"))
+    quotes = map(plain, re.findall(r"(?m)(?:^> .*\n)+", tour))
+    return ["README.md does not say: " + quote for quote in quotes if quote not in plain(readme)]
+
+
 def main():
     command = ["git", "ls-files", "-co", "--exclude-standard"]
     files = subprocess.run(command, capture_output=True, text=True, check=True).stdout.split("\n")
+    files = list(filter(os.path.isfile, files))
+    others = long_pages(files) + misquoted()
+    print("".join("links: %s\n" % other for other in others), end="")
     links = wrong = 0
-    for file in filter(os.path.isfile, files):
+    for file in files:
         with open(file, errors="ignore") as opened:
             text = opened.read()
         targets = BLOCK.sub(blank, text) if file.endswith(".md") else ""
@@ -68,7 +95,7 @@ def main():
                 print("%s:%d: the link to %s: it %s" % (file, line, target, why))
     print("links: %d looked at, %d lead nowhere%s"
           % (links, wrong, ": name a file, heading or line that is there" if wrong else ""))
-    return 1 if wrong else 0
+    return 1 if wrong or others else 0
 
 
 if __name__ == "__main__":

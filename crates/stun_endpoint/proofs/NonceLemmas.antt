@@ -5,11 +5,10 @@ use Rattle.std.specs.Prelude.{IsUtf8}
 use Rattle.std.specs.declared.net.socket_addr.SocketAddr.{SocketAddr}
 use Rattle.stun_judging.specs.Feature.{is_possible}
 use Rattle.stun_judging.specs.Nonces.{asks_for_userhash, begins_with_cookie}
-use Rattle.stun_judging.specs.Nonces.{letter, nonce_of, security_bits, security_byte}
+use Rattle.stun_judging.specs.Nonces.{letter, security_bits, security_byte}
 use Rattle.stun_judging.proofs.MarkedNonces.{marked_asks_for_userhash, marked_begins_with_cookie}
 use Rattle.stun_judging.proofs.MarkedNonces.{marked_bits, marked_is_short, marked_is_text}
-use Rattle.stun_judging.proofs.MarkedNonces.{nonce_of-marked}
-use Rattle.stun_endpoint.specs.Nonces.{front_of, nonce_in, security_bytes, uses_features, words_of}
+use Rattle.stun_endpoint.specs.Nonces.{front_of, nonce_in, security_bytes, words_of}
 use Rattle.stun_endpoint.specs.Settings.{Settings}
 
 module _ (s : Settings) (secret : List ℕ) (from : SocketAddr) (epoch : ℕ) where
@@ -39,8 +38,3 @@ text s words = marked_is_text s.algorithms s.feature words
 pub short : (s : Settings) (words : List ℕ)
     → length (front_of s.algorithms s.feature ++ map letter words) ≤ 13 + length words
 short s words = marked_is_short s.algorithms s.feature words
-
--- a server that uses a security feature has the nonces of `LongTermServerAuth`
-pub nonce_of-front : (s : Settings) → uses_features s ≡ true → (words : List ℕ)
-    → nonce_of s.algorithms s.feature words ≡ front_of s.algorithms s.feature ++ map letter words
-nonce_of-front s uses words = nonce_of-marked s.algorithms s.feature words uses

@@ -1,18 +1,15 @@
 -- The nonce of an address in an epoch. It is a function of the secret, the address and the epoch,
 -- so a server stores no nonce (RFC 8489, section 9.2).
-use Rattle.std.specs.Prelude.{ℕ, ◌/◌, Bool, ◌||◌, List, [], ◌∷◌, ◌++◌, map, take}
+use Rattle.std.specs.Prelude.{ℕ, ◌/◌, List, [], ◌∷◌, ◌++◌, map, take}
 use Rattle.std.specs.Net.Socket.{socket_ip, socket_port}
 use Rattle.std.specs.declared.net.socket_addr.SocketAddr.{SocketAddr}
 use Rattle.byteorder.specs.Endian.{big_bytes}
 use Rattle.sha1.specs.Sha1.{sha1}
 use Rattle.stun_base.specs.Hmac.{hmac}
-use Rattle.stun_base.specs.declared.keys.algorithm.IntegrityAlgorithm.TheVariants.{Sha256}
 use Rattle.stun_judging.specs.declared.algorithm_set.AlgorithmSet.{AlgorithmSet}
 use Rattle.stun_judging.specs.declared.algorithm_set.AlgorithmSet.TheVariants.{OnlySha1}
 use Rattle.stun_judging.specs.declared.algorithm_set.AlgorithmSet.TheVariants.{OnlySha256, Both}
 use Rattle.stun_judging.specs.declared.feature.Feature.{Feature}
-use Rattle.stun_judging.specs.Algorithms.{contains}
-use Rattle.stun_judging.specs.Feature.{is_possible}
 use Rattle.stun_judging.specs.Nonces.{letter, security_byte, spelled_bits}
 use Rattle.stun_extra.specs.CanonicalAddress.{address_octets}
 use Rattle.stun_endpoint.specs.Settings.{Settings}
@@ -44,10 +41,6 @@ words_of algorithms secret from epoch =
 -- supports HMAC-SHA256, and the second if users may be named by a hash
 abbrev pub security_bytes : AlgorithmSet → Feature → List ℕ
 security_bytes algorithms feature = security_byte algorithms feature ∷ 0 ∷ 0 ∷ []
-
--- whether one of them is set
-abbrev pub uses_features : Settings → Bool
-uses_features s = contains Sha256 s.algorithms || is_possible s.feature
 
 -- the beginning of each nonce of a server: the nonce cookie, and the security bits in base64. The
 -- bits are zero if the server uses no security feature (section 9.2)

@@ -11,7 +11,6 @@ use Rattle.stun_judging.specs.declared.refusal.VerdictRefusal.{VerdictRefusal}
 use Rattle.stun_judging.specs.Verdict.{or_before, ClientSeen, IsAcceptedOffering, verdict_offering}
 use Rattle.stun_judging.specs.Reading.{Reading}
 use Rattle.stun_judging.specs.Registered.{Registered, at_realm, key_at}
-use Rattle.stun_judging.specs.Realm.{RealmSeen}
 use Rattle.stun_endpoint.specs.Nonces.{epoch_of, nonce_in}
 use Rattle.stun_endpoint.specs.Settings.{Settings, registered_of}
 
@@ -36,10 +35,6 @@ realm_of_user s users = record {
   feature = s.feature;
   offered = s.algorithms;
 }
-
--- what a server judges by if it is passed a table of users
-abbrev pub realm_of_table : Settings → RealmSeen → Realm
-realm_of_table s table = realm_of_user s (Some table.registered)
 
 -- whether a server is passed users of a realm with another name than its own
 abbrev pub has_other_realm : Settings → Option Registered → Bool

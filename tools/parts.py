@@ -34,6 +34,8 @@ CHECKS = {
     "printed": "python3 tools/printed.py",
     "clauses": "python3 tools/clauses.py",
     "links": "python3 tools/links.py",
+    "rule": "python3 tools/rule.py",
+    "package-files": "debian/generate.sh --check",
     "version": "python3 tools/version.py",
     "licenses": "python3 tools/licenses.py",
     "trusted": "python3 tools/trusted.py",

@@ -15,7 +15,7 @@ use Rattle.stun_judging.specs.Named.{Named, by_hash, by_name, named_in, only_use
 use Rattle.stun_judging.specs.Reading.{Reading}
 use Rattle.stun_judging.specs.Registered.{Registered, RegisteredUser, UserSecret, at_realm, key_at}
 use Rattle.stun_judging.specs.Registered.{key_of, name_cmp, name_with_hash, user_named}
-use Rattle.stun_judging.specs.Registered.{user_with_hash}
+use Rattle.stun_judging.specs.Registered.{user_with_hash, without_users}
 use Rattle.stun_judging.specs.Verdict.{is_unoffered, named_by, named_user, verdict}
 use Rattle.stun_judging.specs.Verdict.{verdict_offering}
 use Rattle.stun_judging.specs.Feature.{is_possible}

@@ -201,9 +201,9 @@ impl<A: Memory> Realm<A> {
         self.registry.remove_user(name);
     }
 
-    /// Prepares a user whom you look up elsewhere: makes a key for each algorithm (RFC 8489,
-    /// section 9.2.2). Pass the result to `judge_of`, at this realm or at another realm with this
-    /// name. The user is not added to the realm.
+    /// Prepares a user whom you look up elsewhere: makes a key for each algorithm (RFC 8489, section
+    /// 9.2.2). Pass the result to `judge_of`, at this realm or at another realm with this name. The
+    /// user is not added to the realm.
     ///
     /// Fails if an allocation fails.
     pub fn prepare_user(

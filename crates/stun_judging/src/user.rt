@@ -10,8 +10,8 @@ use std::fmt;
 use std::marker::Model;
 
 /// A user who is passed along with a message (`Realm::judge_of`), with keys for both algorithms.
-/// `Realm::prepare_user` makes such a user from a password, and `Realm::prepare_user_with_keys`
-/// from stored keys.
+/// `Realm::prepare_user` makes such a user from a password, and `Realm::prepare_user_with_keys` from
+/// stored keys.
 ///
 /// `Debug` shows nothing of the contents.
 ///

@@ -1,5 +1,5 @@
 -- The verdict is an acceptance if and only if the conjunction holds.
-use Rattle.std.proofs.Common.{rules, ◌≡◌}
+use Rattle.std.proofs.Common.{rules, ◌≡◌, Some}
 use Rattle.stun_judging.specs.Judged.{client_judged}
 use Rattle.stun_judging.specs.Reading.{reading_of}
 use Rattle.stun_judging.specs.Registered.{at_realm}

@@ -1,6 +1,6 @@
 -- What a call in C returns is what the library makes of the same arguments, or a refusal.
 use Rattle.std.proofs.Common.{◌≡◌, ◌⊎◌, inl, inr, ℕ, ℤ, pos, List, [], ◌++◌, Bool, true, false}
-use Rattle.std.proofs.Common.{Option, Some, None, length, refl, sym, ◌∙◌, ap, arith, Ok, Err}
+use Rattle.std.proofs.Common.{eqb-true, Option, Some, None, length, refl, sym, ◌∙◌, ap, arith, Ok, Err}
 use Rattle.std.specs.Prelude.{◌≢◌, ◌==◌, ◌-◌, ◌&&◌, ◌||◌, not, drop, take, if◌then◌else◌, nat_lt}
 use Rattle.std.specs.Prelude.{nat_abs}
 use Rattle.std.specs.Option.{option_or}

@@ -27,7 +27,7 @@ sys.path.insert(0, "tools")
 import parts
 for lane in (*parts.MERGE, parts.RELEASE):
     lane |= {name: f"bin/stub {name}" for name in lane if name != "proofs"}
-sys.exit(parts.main() if sys.argv[1] != "merge" else runpy.run_path(".ci/run", None, "__main__"))
+sys.exit(parts.main() if sys.argv[1] != "merge" else runpy.run_path(".ci/merge.py", None, "__main__"))
 """
 # Waits for the first part of the other lanes. FAIL and LACKS name parts.
 STUB = """#!/bin/sh
@@ -67,7 +67,7 @@ def lay(top):
     """A repository of three crates, with the tools."""
     for name in ("parts.py", "proof.py", "crates.py"):
         write(top / "tools" / name, (TOP / "tools" / name).read_text())
-    write(top / ".ci/run", (TOP / ".ci/run").read_text())
+    write(top / ".ci/merge.py", (TOP / ".ci/merge.py").read_text())
     write(top / "driver.py", DRIVER)
     write(top / ".gitignore", "ran.*\ntarget/\nbin/\nkit/\n__pycache__/\nPROOF.txt\nsaid\n")
     write(top / "crates.txt", "one:\ntwo: one\nthree:\n")

@@ -89,7 +89,7 @@ if $cc -fshort-enums -fsyntax-only -x c /dev/null 2>/dev/null; then
     printf '#include "stunp_endpoint.h"\n' >"$scratch/enums.c"
     for standard in c99 c11 c17; do
         $cc -std=$standard -I../include -fsyntax-only "$scratch/enums.c"
-        for name in stunp_message_class stunp_kind stunp_transport; do
+        for name in stunp_message_class stunp_kind stunp_result; do
             wants "$name.*without.-\\?_\\?f\\?short[-_]enums" \
                 $cc -std=$standard -fshort-enums -I../include -fsyntax-only "$scratch/enums.c"
         done

@@ -247,8 +247,9 @@
  *
  * examples/c/my_address.c is this client with its socket. To send requests as a user, set `name`
  * and `password` in the settings too, as examples/c/udp_client.c does. With long-term credentials,
- * a client learns the realm and the nonce from the server's first challenge. It signs each later
- * request from the first transmission on, with the realm and the nonce of the last challenge.
+ * a client learns the realm and the nonce from the server's first challenge. Later requests are
+ * signed from the first transmission on, as a rule for the challenge that the client answered last
+ * (row 12 of "The client's rule" in docs/DIFFERENCES.md).
  *
  * examples/c/turn_client.c is a session at a TURN server. Use one client and one socket for all
  * requests of an allocation. Many TURN servers, such as coturn, do not sign Binding responses, so
@@ -602,7 +603,7 @@ typedef enum stunp_kind {
 } stunp_kind;
 
 /* Why a datagram is dropped. The reasons of clients name their rows in "The client's rule", the
- * table in docs/DIFFERENCES.md in the repository that says what a client does with each response. */
+ * table in docs/DIFFERENCES.md that says what a client does with each response. */
 typedef enum stunp_drop {
     STUNP_DROP_NOT_STUN = 1,          /* the datagram does not begin with the header of a STUN
                                        * message */

@@ -64,9 +64,10 @@ pub mod turn {
     pub use crate::turn::{ChannelData, Packet, TurnMethod, data_indication, send_indication};
 }
 
-/// Further attributes: of STUN (RFC 8489, section 14), of ICE (RFC 8445, section 16.1), of TURN
-/// (RFC 8656, section 18; RFC 6062; RFC 8016), of third-party authorization (RFC 7635), of NAT
-/// behavior discovery (RFC 5780, section 7), and of other RFCs, which their pages name.
+/// Further attributes of STUN (RFC 8489, section 14), of ICE (RFC 8445, section 16.1), and of TURN
+/// (RFC 8656, section 18; RFC 6062; RFC 8016). There are also those of third-party authorization
+/// (RFC 7635), of NAT behavior discovery (RFC 5780, section 7), and of other RFCs, which their
+/// pages name.
 ///
 /// Add them with [`add_attribute`](crate::types::prelude::MessageWriteExt::add_attribute), and
 /// parse them with [`Message::attribute`].
@@ -184,9 +185,9 @@ pub fn is_stun(packet: &[u8]) -> bool {
     framing::is_stun(packet)
 }
 
-/// Returns the registered reason phrase of an error code of STUN (RFC 8489, section 14.8), TURN
-/// (RFC 8656, section 19; RFC 6062, section 6.3; RFC 8016) or ICE (RFC 8445, section 16.1), or
-/// `None` if no phrase is registered for the code.
+/// Returns the registered reason phrase of an error code, or `None` if no phrase is registered for
+/// it. The codes are those of STUN (RFC 8489, section 14.8), TURN (RFC 8656, section 19; RFC 6062,
+/// section 6.3; RFC 8016) and ICE (RFC 8445, section 16.1).
 /// [`Reply::refuse`](crate::endpoint::Reply::refuse) writes this phrase.
 ///
 /// # Examples

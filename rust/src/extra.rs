@@ -64,10 +64,9 @@ pub mod turn {
     pub use crate::turn::{ChannelData, Packet, TurnMethod, data_indication, send_indication};
 }
 
-/// Further attributes of STUN (RFC 8489, section 14), of ICE (RFC 8445, section 16.1), and of TURN
-/// (RFC 8656, section 18; RFC 6062; RFC 8016). There are also those of third-party authorization
-/// (RFC 7635), of NAT behavior discovery (RFC 5780, section 7), and of other RFCs, which their
-/// pages name.
+/// Further attributes: of STUN (RFC 8489, section 14), of ICE (RFC 8445, section 16.1), of TURN
+/// (RFC 8656, section 18; RFC 6062; RFC 8016), of third-party authorization (RFC 7635), of NAT
+/// behavior discovery (RFC 5780, section 7), and of other RFCs, which their pages name.
 ///
 /// Add them with [`add_attribute`](crate::types::prelude::MessageWriteExt::add_attribute), and
 /// parse them with [`Message::attribute`].

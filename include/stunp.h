@@ -122,8 +122,8 @@
  *
  * If you pass a length above PTRDIFF_MAX, such as the -1 of a recv that failed, a call of the
  * exported library fails with STUNP_BAD_ARGUMENT before it tests for any other error, and reads and
- * writes nothing there; stunp_is_stun returns 0. The proved archives do so for the length of a
- * message or a packet that a call reads, and leave all other lengths to you.
+ * writes nothing there. In this case, stunp_is_stun returns 0. The proved archives do so for the
+ * length of a message or a packet that a call reads, and leave all other lengths to you.
  *
  * Test a result with `< 0` or `> 0`, or compare it with the value that you expect. An error is not
  * 0, so `if (stunp_verify(..))` would accept every forgery. If you need only yes or no, call
@@ -909,7 +909,7 @@ int64_t stunp_begin(stunp_message_class message_class, uint32_t method, const ui
  * message from its start, so the time to write a message is proportional to the square of the
  * number of attributes: 0.1 ms for 100 attributes.
  *
- * A message has at most one attribute of each type, except for the two types that TURN repeats: a
+ * A message has at most one attribute of each type, except for the two types that TURN repeats. A
  * CreatePermission request has an XOR-PEER-ADDRESS for each peer, and the response to an Allocate
  * request for both families has two XOR-RELAYED-ADDRESS (RFC 8656, sections 10.1 and 7.2). Read
  * them with stunp_walk, because the calls by type find only the first one. */
@@ -1375,8 +1375,8 @@ int64_t stunp_set_memory(stunp_allocate allocate, stunp_resize resize, stunp_rel
 /* ---- Errors and versions */
 
 /* Writes an English text for the result of a call to the front of `out`, with a zero byte at its
- * end: "no error" for 0 or more, the cause for a stunp_refusal, and "unknown refusal" for any other
- * negative number.
+ * end. The text is "no error" for 0 or more, the cause for a stunp_refusal, and "unknown refusal"
+ * for any other negative number.
  *
  * Returns the number of bytes written, including the zero byte, at most STUNP_LONGEST_ERROR_TEXT.
  * Errors:

@@ -247,8 +247,9 @@
  *
  * examples/c/my_address.c is this client with its socket. To send requests as a user, set `name`
  * and `password` in the settings too, as examples/c/udp_client.c does. With long-term credentials,
- * a client learns the realm and the nonce from the server's first challenge. It signs each later
- * request from the first transmission on, with the realm and the nonce of the last challenge.
+ * a client learns the realm and the nonce from the server's first challenge. Later requests are
+ * signed from the first transmission on, as a rule for the challenge that the client answered last
+ * (row 12 of "The client's rule" in docs/DIFFERENCES.md).
  *
  * examples/c/turn_client.c is a session at a TURN server. Use one client and one socket for all
  * requests of an allocation. Many TURN servers, such as coturn, do not sign Binding responses, so
@@ -601,7 +602,8 @@ typedef enum stunp_kind {
                               * has failed. The call itself returns the error */
 } stunp_kind;
 
-/* Why a datagram is dropped. */
+/* Why a datagram is dropped. The reasons of clients name their rows in "The client's rule", the
+ * table in docs/DIFFERENCES.md that says what a client does with each response. */
 typedef enum stunp_drop {
     STUNP_DROP_NOT_STUN = 1,          /* the datagram does not begin with the header of a STUN
                                        * message */
@@ -611,9 +613,10 @@ typedef enum stunp_drop {
     STUNP_DROP_WRONG_FINGERPRINT = 3, /* FINGERPRINT is wrong, is not the last attribute, or does
                                        * not have 4 bytes: the datagram is damaged, or belongs to
                                        * another protocol. In ICE, this is also the reason if there
-                                       * is no FINGERPRINT */
+                                       * is no FINGERPRINT (row 2) */
     STUNP_DROP_MISSING_FINGERPRINT = 13, /* the datagram has no FINGERPRINT, although the settings
-                                          * of the server or the client require it (section 7.3) */
+                                          * of the server or the client require it (section 7.3;
+                                          * row 2) */
     STUNP_DROP_UNKNOWN_ATTRIBUTE = 4, /* the datagram is an indication with an attribute that must
                                        * be understood but is not */
     /* Only with long-term credentials. */
@@ -634,28 +637,29 @@ typedef enum stunp_drop {
     /* Only at clients, for responses to their requests. */
     STUNP_DROP_NOT_VERIFIED = 9,      /* the response is not signed with the key of the message that
                                        * it answers, or it is a challenge that answers an earlier
-                                       * message of its request, and not the current one */
+                                       * message of its request, and not the current one (rows 5 and
+                                       * 11) */
     STUNP_DROP_UNANSWERABLE_CHALLENGE = 10, /* the response is an unsigned 401 or 438 that the
                                              * client cannot answer, or a challenge whose list of
                                              * algorithms is so long that the request would not fit
-                                             * into a message */
+                                             * into a message (row 6) */
     STUNP_DROP_WEAKER_CHALLENGE = 11, /* the response is a challenge that offers less protection
                                        * than an earlier challenge for which a signed request has
-                                       * succeeded */
+                                       * succeeded (row 8) */
     STUNP_DROP_OUT_OF_MEMORY = 12,    /* an allocation failed, or no transaction ID is left for
-                                       * another message. The request continues, and the server
-                                       * answers its next transmission. Over a stream there is no
-                                       * further transmission, so the request times out */
+                                       * another message (row 15). The request continues, and the
+                                       * server answers its next transmission. Over a stream there
+                                       * is no further transmission, so the request times out */
     STUNP_DROP_LATE_CHALLENGE = 14,   /* the response is a challenge that arrived after the end of
                                        * the first plan of its request, which is by default 39.5 s
                                        * after the start of the request (`transmissions` of
                                        * stunp_endpoint_client_settings). The client no longer
-                                       * answers challenges to this request */
+                                       * answers challenges to this request (row 13) */
     STUNP_DROP_REFUSED = 15           /* the response repeats the challenge for which the current
-                                       * message of the request is signed. This message is
-                                       * retransmitted when its timer is due, and the request ends
-                                       * if the challenge arrives again after that, unless another
-                                       * message has become the current one in between */
+                                       * message of the request is signed, so the server may have
+                                       * refused this message. The message is retransmitted when its
+                                       * timer is due, and the request may end if the challenge
+                                       * arrives again after that (row 9) */
 } stunp_drop;
 
 /* Why a server with long-term credentials refuses a request: the first check that fails. The checks
@@ -1752,36 +1756,30 @@ STUNP_INLINED uint64_t stunp_ice_consent_until(const stunp_ice_consent *consent,
  * A client has one server, and any number of requests at the same time. Use a client in one thread
  * at a time.
  *
- * With long-term credentials, a request has at most one unsigned message, and one signed message
- * for each challenge that the client answers. Each message has its own transaction ID. One of them
- * is the current message, and only this message is sent and retransmitted, until another message
- * takes its place. But a response to any of these messages ends the request if it is signed with
- * the key of that message, unless the response is a challenge. Any other response counts only if it
- * answers the current message:
+ * With long-term credentials, a client answers a challenge (a 401 or a 438) with another message of
+ * the same request, which has its own transaction ID. Only one message of a request is sent at a
+ * time, the current one. But a response that is signed for any of its messages ends the request,
+ * unless the response is a challenge. A request that is never polled within its first plan ends
+ * without being sent.
  *
- *   - A challenge for which the current message is not signed: the client answers it with a message
- *     that is signed for this challenge. But the client drops a challenge that is weaker than an
- *     earlier challenge that a success response has confirmed (STUNP_DROP_WEAKER_CHALLENGE): one
- *     that asks for HMAC-SHA1 in place of HMAC-SHA256, or for the name in place of its hash. So two
- *     challenges can each be weaker than the other. If a signed 438 has no list of algorithms, or a
- *     malformed one, the client uses the list of the challenge before.
- *   - A challenge for which the current message is already signed: the client drops it
- *     (STUNP_DROP_REFUSED), and retransmits the message when its timer is due. If the challenge
- *     arrives once more after that, the request ends, unless another message became the current
- *     one in between. Over a stream, where nothing is retransmitted, the request ends when the
- *     challenge first arrives.
- *   - An unsigned error 400, 437 or 441 to a signed message: it may be forged, so it does not end
- *     the request. Instead, the client sends another message of the request, or an unsigned message
- *     if there is no other message. Likewise, after an unsigned 437 to the unsigned message, the
- *     client sends a signed message in its place. The client does this at most three times for one
- *     request. After that, or if there is no other message to send, the error is dropped
- *     (STUNP_DROP_NOT_VERIFIED). Of several other messages, the client sends the one that it wrote
- *     last. The next requests are then signed for the challenge of that message, so an unsigned
- *     437, which anybody can send, can change this challenge.
+ * docs/DIFFERENCES.md in the repository has the whole rule by which a client judges responses, as
+ * one table under "The client's rule". The reasons of clients in stunp_drop name their rows.
+ * SECURITY.md lists what each kind of forged datagram costs. In short:
  *
- * After the first plan of a request, the client answers no challenge to it, but a challenge that
- * arrives exactly at the end of this plan is still answered. A request that is never polled within
- * its first plan ends without being sent. */
+ *   - Too many challenges end a request: see `challenges` of stunp_endpoint_client_settings.
+ *   - An unsigned error other than a challenge ends no request, unless you accept unsigned
+ *     responses, because anybody can forge one. After an unsigned 400, 437 or 441, the client may
+ *     send another message of the request, because servers answer a message that is signed for a
+ *     forged challenge with these errors.
+ *   - After a success, the client drops weaker challenges (STUNP_DROP_WEAKER_CHALLENGE), which ask
+ *     for HMAC-SHA1 in place of HMAC-SHA256, or for the name in place of its hash. So after your
+ *     server's settings have become weaker, one request times out, and the next one succeeds.
+ *   - One forged datagram ends no request over UDP, unless the server's own challenges have brought
+ *     the request to a limit of `challenges`, or you accept unsigned responses. Several can end a
+ *     request, and an attacker who keeps the server's responses from arriving can make it time out.
+ *   - No forged challenge makes a server accept a weaker algorithm than the strongest that both
+ *     sides support. This assumes that the server's nonces and lists of algorithms match its
+ *     current settings, as those of stunp_endpoint_server do. */
 
 /* The longest body of a request, in bytes. The attributes that the client adds to such a body still
  * fit into a message, unless the server's list of algorithms is very long. In that case
@@ -1819,18 +1817,15 @@ enum { STUNP_BODY_MAX = 60000 };
  *                       challenges of a server that does not accept hashes; STUNP_DISABLED always
  *                       sends the name
  *   challenges          how often another message of a request may take the place of the current
- *                       one, because of a challenge or an unsigned error. By default 6 times. After
- *                       that, the next challenge ends the request, with STUNP_RESULT_UNAUTHORIZED
- *                       if it is a 401 to a signed message and otherwise with
- *                       STUNP_RESULT_TOO_MANY_CHALLENGES, and the next unsigned error is dropped. A
- *                       restart of the server, a new address of the client, an expired nonce and a
- *                       forged challenge each count as one replacement. A wrong password ends a
- *                       request earlier. If the server repeats the nonce for which the request is
- *                       signed, the request ends at the second refusal (over a stream, at the
- *                       first). If the server sends a new nonce each time, the request ends at the
- *                       third 401 with a new nonce. So if the server repeats the nonce, the first
- *                       request of a client with a wrong password takes three datagrams, and the
- *                       last two of them are equal. Otherwise it takes four datagrams
+ *                       one, because of a challenge or an unsigned error. By default 6 times, after
+ *                       which the next challenge ends the request. A restart of the server, a new
+ *                       address of the client, an expired nonce and a forged challenge each count
+ *                       as one. A wrong password ends a request earlier: when the server refuses
+ *                       the current message again after its retransmission (over a stream, at the
+ *                       first refusal), or sends the third 401 with the same realm but a new nonce.
+ *                       A request that a challenge ends has the result STUNP_RESULT_UNAUTHORIZED if
+ *                       the challenge is a 401 to a signed message, and otherwise
+ *                       STUNP_RESULT_TOO_MANY_CHALLENGES
  *   initial             how long to wait after the first transmission of a request, in nanoseconds.
  *                       Each further wait is twice the wait before (section 6.2.1). By default
  *                       500000000 (500 ms)

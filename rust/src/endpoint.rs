@@ -282,6 +282,9 @@ impl fmt::Display for Cause {
 
 /// Why a datagram is dropped.
 ///
+/// The reasons of a [`Client`] name their rows in *The client's rule*, the table in
+/// `docs/DIFFERENCES.md` in the repository that says what a client does with each response.
+///
 /// # Examples
 ///
 /// ```
@@ -315,7 +318,7 @@ pub enum DropReason {
     /// header states, or its attributes do not fill that length exactly.
     Malformed,
     /// The datagram has a FINGERPRINT that is wrong, is not the last attribute, or does not have 4
-    /// bytes. So it is damaged, or belongs to another protocol (RFC 8489, section 14.7).
+    /// bytes. So it is damaged, or belongs to another protocol (RFC 8489, section 14.7; row 2).
     WrongFingerprint,
     /// The datagram is an indication with an attribute that must be understood but is not: its type
     /// is neither one of STUN itself, nor one that you passed to
@@ -323,7 +326,7 @@ pub enum DropReason {
     UnknownAttribute,
     /// The datagram is a response without a valid signature, although it must have one. Or it is a
     /// 401 or a 438 that answers an earlier message of its request, which the client has since
-    /// replaced with another message.
+    /// replaced with another message (rows 5 and 11).
     NotVerified,
     /// The datagram is a 401 or a 438 without a valid signature that the client cannot answer, for
     /// one of these reasons:
@@ -333,27 +336,26 @@ pub enum DropReason {
     /// - Its nonce does not allow hashed names, although the client must send one.
     ///
     /// Or it is a 401 or a 438, signed or not, whose list of algorithms is so long that the request
-    /// would not fit in a message.
+    /// would not fit in a message (row 6).
     UnanswerableChallenge,
     /// The datagram is a 401 or a 438 that is weaker than an earlier challenge for which a signed
     /// request has succeeded. It offers only a weaker algorithm, or it does not allow hashed names
-    /// although the earlier challenge did.
+    /// although the earlier challenge did (row 8).
     WeakerChallenge,
     /// An allocation failed, or a client has no transaction ID left for another message of a
-    /// request. The client continues to retransmit the request until it times out.
+    /// request. The client continues to retransmit the request until it times out (row 15).
     OutOfMemory,
-    /// The datagram has no FINGERPRINT, although the settings require one (RFC 8489, section 7.3).
+    /// The datagram has no FINGERPRINT, although the settings require one (RFC 8489, section 7.3;
+    /// row 2).
     MissingFingerprint,
     /// The datagram is a 401 or a 438 that arrived after the end of the first plan of its request,
     /// which is 39.5 seconds after the start of the request by default (see [`Retransmission`]).
     /// The client no longer answers challenges to this request, so that the request ends within two
-    /// plans.
+    /// plans (row 13).
     LateChallenge,
-    /// The datagram repeats the challenge for which the current message of the request is signed.
-    /// The client retransmits this message when its timer fires. If the challenge arrives again
-    /// after that, the request ends, unless another message has become the current one in between:
-    /// with [`Unauthorized`](RequestError::Unauthorized) if the challenge is a 401, and with
-    /// [`TooManyChallenges`](RequestError::TooManyChallenges) if it is a 438.
+    /// The datagram repeats the challenge for which the current message of the request is signed,
+    /// so the server may have refused this message. The client retransmits the message when its
+    /// timer fires, and the request may end if the challenge arrives again after that (row 9).
     Refused,
     /// The datagram is a request or an indication with a method that you do not serve
     /// ([`ServerBuilder::methods`], [`ResponseSettings::methods`]; RFC 8489, section 6.3).

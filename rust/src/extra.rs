@@ -184,9 +184,9 @@ pub fn is_stun(packet: &[u8]) -> bool {
     framing::is_stun(packet)
 }
 
-/// Returns the registered reason phrase of an error code of STUN (RFC 8489, section 14.8), TURN
-/// (RFC 8656, section 19; RFC 6062, section 6.3; RFC 8016) or ICE (RFC 8445, section 16.1), or
-/// `None` if no phrase is registered for the code.
+/// Returns the registered reason phrase of an error code, or `None` if no phrase is registered for
+/// it. The codes are those of STUN (RFC 8489, section 14.8), TURN (RFC 8656, section 19; RFC 6062,
+/// section 6.3; RFC 8016) and ICE (RFC 8445, section 16.1).
 /// [`Reply::refuse`](crate::endpoint::Reply::refuse) writes this phrase.
 ///
 /// # Examples

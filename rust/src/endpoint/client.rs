@@ -50,63 +50,6 @@ use core::net::SocketAddr;
 /// request. `poll` and `cancel` do not allocate. Only [`build`](ClientBuilder::build) aborts the
 /// program if an allocation fails.
 ///
-/// # Challenges, and what an attacker can forge
-///
-/// With long-term credentials, a request has a message for each challenge that it answers, and at
-/// most one unsigned message, each with its own transaction ID. One of these is the current
-/// message, which is sent until the request ends or another message takes its place:
-///
-/// - A response to any message of the request ends the request if it is signed with the key of that
-///   message, unless the response is a challenge (401 or 438). All other responses to a message
-///   that is not the current one are dropped.
-/// - A challenge is answered with the message that is signed for it. If there is no such message
-///   yet, it is written. A challenge is dropped if it is weaker than a challenge that a success has
-///   confirmed: if it asks for HMAC-SHA1 in place of HMAC-SHA256, or for the user name in place of
-///   its hash. So of a challenge for HMAC-SHA256 with the name and a challenge for HMAC-SHA1 with
-///   the hash, each is weaker than the other. If a signed 438 has no list of algorithms, or a
-///   malformed one, the client uses the list of the challenge before.
-/// - If the challenge that the current message is signed for arrives once more, it is a refusal.
-///   The first refusal is dropped, and a refusal that arrives after the message was retransmitted
-///   ends the request. (Over a stream no message is retransmitted, so the first refusal ends the
-///   request.) When another message becomes the current one, refusals of the former message no
-///   longer count.
-/// - Servers do not sign the errors 400, 437 and 441 with which they refuse a message that is
-///   signed for a forged challenge. So such an error without a signature does not end the request.
-///   Instead, the client makes another message of the request the current one, at most three times:
-///   of the messages that are neither in doubt nor signed for a weaker challenge, the one that was
-///   written last. The next requests are then signed for its challenge, so an unsigned 437, which
-///   anybody can send, can change that challenge.
-/// - After the current message has been replaced six times
-///   ([`challenges`](ClientBuilder::challenges)), the next challenge ends the request. The third
-///   401 that has the same realm, but a new nonce, ends it too.
-/// - After the first plan of a request, the client answers no challenge to it, but a challenge that
-///   arrives exactly at the end of this plan is still answered. A request that is not polled within
-///   its first plan ends without being sent.
-///
-/// So over UDP a single forged datagram ends no request, unless the server itself has brought the
-/// request to one of these limits, or you accept unsigned responses
-/// ([`accept_unsigned`](ClientBuilder::accept_unsigned)). An attacker who sends several forged
-/// datagrams can end a request, for example with three 401s that have the true realm and new
-/// nonces, and an attacker who keeps the server's answers from arriving can make the request time
-/// out. A request that a challenge ends fails with
-/// [`RequestError::Unauthorized`](super::RequestError::Unauthorized) if the challenge is a 401 that
-/// answers a signed message, and otherwise with
-/// [`RequestError::TooManyChallenges`](super::RequestError::TooManyChallenges).
-///
-/// The client chooses the algorithm from the list of the challenge that it answers. Only if the
-/// challenge is a 438 that is signed and has no list does it use the list of the challenge before.
-/// So forged challenges cannot make a server accept a request of this client with a weaker
-/// algorithm than the strongest that both support, provided that the server's nonces and lists of
-/// algorithms match its current settings, as those of [`Server`](super::Server) do.
-///
-/// # Servers that do not sign Binding responses
-///
-/// Many TURN servers, such as coturn, answer a Binding request without asking for credentials, and
-/// sign neither that response nor a 300. A client with long-term credentials drops both as
-/// [`DropReason::NotVerified`](super::DropReason::NotVerified), and the request times out. So ask
-/// for your address with a request of the same client that is not signed
-/// ([`request_with`](Self::request_with), [`RequestOptions::unsigned`]).
-///
 /// # Examples
 ///
 /// ```no_run
@@ -153,6 +96,48 @@ use core::net::SocketAddr;
 ///     }
 /// }
 /// ```
+///
+/// # Challenges, and what an attacker can forge
+///
+/// With long-term credentials, the client answers a challenge (a 401 or a 438) with another message
+/// of the same request, which has its own transaction ID. Only one message of a request is sent at
+/// a time, the *current* one. But a response that is signed for any of its messages ends the
+/// request, unless the response is a challenge.
+///
+/// `docs/DIFFERENCES.md` in the repository has the whole rule by which a client judges responses,
+/// as one table under *The client's rule*. Each [`DropReason`](super::DropReason) of a client names
+/// its row. `SECURITY.md` lists what each kind of forged datagram costs. In short:
+///
+/// - **Too many challenges** end a request. This is a challenge that refuses the current message
+///   again after the message was retransmitted (over a stream, the first refusal). It is also the
+///   third 401 with the same realm but a new nonce, and any challenge after six changes of the
+///   current message (the default of [`challenges`](ClientBuilder::challenges)). The request then
+///   fails with [`RequestError::Unauthorized`](super::RequestError::Unauthorized) if the challenge
+///   is a 401 that answers a signed message, and otherwise with
+///   [`RequestError::TooManyChallenges`](super::RequestError::TooManyChallenges).
+/// - **An unsigned error** other than a challenge ends no request, unless you accept unsigned
+///   responses, because anybody can forge one. After an unsigned 400, 437 or 441, the client may
+///   send another message of the request, because servers answer a message that is signed for a
+///   forged challenge with these errors.
+/// - **A weaker challenge** is dropped after a success. It asks for HMAC-SHA1 in place of
+///   HMAC-SHA256, or for the user name in place of its hash. So after your server's settings have
+///   become weaker, one request times out, and the next one succeeds.
+/// - **One forged datagram** ends no request over UDP, unless the server's own challenges have
+///   brought the request to one of the limits above, or you accept unsigned responses
+///   ([`accept_unsigned`](ClientBuilder::accept_unsigned), [`RequestOptions::unsigned`]). Several
+///   can end a request, and an attacker who keeps the server's responses from arriving can make it
+///   time out.
+/// - **No forged challenge** makes a server accept a weaker algorithm than the strongest that both
+///   sides support. This assumes that the server's nonces and lists of algorithms match its current
+///   settings, as those of [`Server`](super::Server) do.
+///
+/// # Servers that do not sign Binding responses
+///
+/// Many TURN servers, such as coturn, answer a Binding request without asking for credentials, and
+/// sign neither that response nor a 300. A client with long-term credentials drops both as
+/// [`DropReason::NotVerified`](super::DropReason::NotVerified), and the request times out. So ask
+/// for your address with a request of the same client that is not signed
+/// ([`request_with`](Self::request_with), [`RequestOptions::unsigned`]).
 pub struct Client {
     core: ClientEndpoint<Global>,
     indications: Indications,

@@ -375,9 +375,9 @@ impl ClientBuilder {
     /// the server, a new address of the client, an expired nonce, a forged challenge, and an
     /// unsigned error 400, 437 or 441 each count as one replacement.
     ///
-    /// A wrong password ends a request earlier: when the server refuses the current message for the
-    /// second time with the nonce for which this message is signed, or when it sends the third 401
-    /// that has the same realm, but a new nonce.
+    /// A wrong password ends a request earlier: when the server refuses the current message again
+    /// after its retransmission (over a stream, at the first refusal), or when it sends the third
+    /// 401 with the same realm but a new nonce.
     pub fn challenges(mut self, most: u32) -> ClientBuilder {
         self.challenges = most;
         self

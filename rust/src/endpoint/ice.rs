@@ -386,9 +386,9 @@ impl Checker {
     /// Returns the first of these errors that applies:
     ///
     /// - [`NewCheckError::NoRemote`]: the credentials of the peer are not known yet.
-    /// - [`NewCheckError::Attribute`]: one of the attributes cannot be added: the check has an
-    ///   attribute of this type already; the check would not fit into a message; the attribute is
-    ///   an integrity attribute or FINGERPRINT; or it is USE-CANDIDATE, ICE-CONTROLLED or
+    /// - [`NewCheckError::Attribute`]: one of the attributes cannot be added. The check has an
+    ///   attribute of this type already, or would not fit into a message, or the attribute is an
+    ///   integrity attribute or FINGERPRINT. Or it is USE-CANDIDATE, ICE-CONTROLLED or
     ///   ICE-CONTROLLING, which the arguments and the role of the agent decide.
     /// - [`NewCheckError::OutOfMemory`]: an allocation failed.
     ///

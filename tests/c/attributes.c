@@ -39,7 +39,7 @@ static void hides_addresses(void) {
     stunp_write_xor_address(&writer, STUNP_XOR_RELAYED_ADDRESS, peer_6, 16, 32853);
     stunp_write_fingerprint(&writer);
     CHECK(stunp_written(&writer), 0);
-    CHECK(writer.length, 112);
+    CHECK((int64_t)writer.length, 112);
     stunp_write_xor_address(&writer, STUNP_XOR_RELAYED_ADDRESS, peer_4, 4, 32853);
     CHECK(stunp_written(&writer), STUNP_CLOSED);
     stunp_cursor relayed = {56, 0};

@@ -66,9 +66,21 @@ def many(program):
 
 
 def conflict(program, role, words, wanted):
-    """Both begin in one role, with these tie-breakers; a 487 repairs it."""
+    """Both begin in one role, with these tie-breakers; a 487 repairs it. The first datagrams cross,
+    since otherwise a side may take the other role before it has sent a check."""
+    held = []
+
+    def rule(wire, is_of_first, number, data):
+        of = 0 if is_of_first else 1
+        if all(other == of for other, _ in wire.seen):
+            held.append(data)
+            return []
+        while held:
+            wire.ends[of].sendto(held.pop(0), wire.sides[of].address)
+        return [data]
+
     sides = [Side(program, role, "--tie-breaker", word) for word in words]
-    *ends, wire = met_over(*sides)
+    *ends, wire = met_over(*sides, rule)
     roles = [role_of(end) for end in ends]
     assert wanted is None or roles == wanted, (roles, wire.codes())
     assert sorted(roles) == ["controlled", "controlling"], roles
